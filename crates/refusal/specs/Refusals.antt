@@ -1,0 +1,46 @@
+-- The refusals of document 01 in its own words: a number of its table and, with 15 and 17, the value that the number carries.
+-- Every answer of every crate is stated through `paper`. The law `paper-one-to-one` of proofs/ says that nothing is lost by it.
+use Prim.Native.Nat.{ℕ}
+use Rattle.refusal.specs.declared.Refusal.{Refusal}
+use Rattle.refusal.specs.declared.Refusal.the-variants.{NoRoom, BadRecord, BadEscape, BareControl, BodyTooLong, BodyTooShort, WrongLength, WrongChecksum, CutBySilence, AddressBroadcast, UnknownCommand, OutOfRange, BadFloat, ForeignReply, DeviceError, BadWordCount, WrongCrc, BadScale}
+
+-- 01, Refusal numbers: `number 4`, or `17 carrying 3`
+infix 30 _carrying_
+
+pub data Numbered : Type 0 where
+  number : ℕ → Numbered
+  _carrying_ : ℕ → ℕ → Numbered
+
+-- 01, Refusal numbers: the table, a row for each case of the enum
+abbrev pub paper : Refusal → Numbered
+paper NoRoom = number 1
+paper BadRecord = number 2
+paper BadEscape = number 3
+paper BareControl = number 4
+paper BodyTooLong = number 5
+paper BodyTooShort = number 6
+paper WrongLength = number 7
+paper WrongChecksum = number 8
+paper CutBySilence = number 9
+paper AddressBroadcast = number 10
+paper UnknownCommand = number 11
+paper OutOfRange = number 12
+paper BadFloat = number 13
+paper ForeignReply = number 14
+paper (DeviceError code) = 15 carrying code
+paper BadWordCount = number 16
+paper (WrongCrc index) = 17 carrying index
+paper BadScale = number 18
+
+-- the number alone
+abbrev pub numberIn : Numbered → ℕ
+numberIn (number n) = n
+numberIn (n carrying value) = n
+
+abbrev pub numberOf : Refusal → ℕ
+numberOf r = numberIn (paper r)
+
+-- What an entry point answers, in 01's words: it serves, with a value, or it refuses.
+pub data Answered (A : Type 0) : Type 0 where
+  served : A → Answered A
+  refused : Numbered → Answered A

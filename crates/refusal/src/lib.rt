@@ -1,0 +1,69 @@
+// The refusals of the serial and I2C interfaces: one named case for each number of the scope's table.
+ghost use mathlib.Core.Path.{_≡_};
+ghost use Rattle.refusal.specs.Refusals.{numberOf};
+
+// Why an entry point does not serve. The comment of a case is its number and its row of the table.
+pub enum Refusal {
+    // 1: lent room is less than this answer needs.
+    NoRoom,
+    // 2: receiver record outside its ranges.
+    BadRecord,
+    // 3: 7D not followed by 5E, 5D, 31 or 33, or last in the stretch.
+    BadEscape,
+    // 4: 11 or 13 not after a 7D.
+    BareControl,
+    // 5: body over 259 (request) or 260 (reply).
+    BodyTooLong,
+    // 6: body under 4 (request) or 5 (reply).
+    BodyTooShort,
+    // 7: L differs from the data bytes present.
+    WrongLength,
+    // 8: checksum wrong.
+    WrongChecksum,
+    // 9: non-empty stretch cut off by silence.
+    CutBySilence,
+    // 10: set slave address sent to address 255.
+    AddressBroadcast,
+    // 11: command or subcommand not in the table; subcommand missing.
+    UnknownCommand,
+    // 12: a data length not in the table, a value out of its range, or a field past the payload's end.
+    OutOfRange,
+    // 13: float not allowed there.
+    BadFloat,
+    // 14: reply does not belong to the request.
+    ForeignReply,
+    // 15: device reported an execution error; its code, 1 to 127.
+    DeviceError(u8),
+    // 16: word bytes empty or not a multiple of 3; list of words to write empty.
+    BadWordCount,
+    // 17: a word's CRC wrong; the first such word's index, from 0.
+    WrongCrc(usize),
+    // 18: scale factor outside 1 to 32,767.
+    BadScale,
+}
+
+// The number of a refusal in the scope's table.
+pub fn number(r: Refusal) -> u8
+    ensures { λ n. ⌜ n ≡ numberOf r ⌝ }
+{
+    match r {
+        Refusal::NoRoom => 1,
+        Refusal::BadRecord => 2,
+        Refusal::BadEscape => 3,
+        Refusal::BareControl => 4,
+        Refusal::BodyTooLong => 5,
+        Refusal::BodyTooShort => 6,
+        Refusal::WrongLength => 7,
+        Refusal::WrongChecksum => 8,
+        Refusal::CutBySilence => 9,
+        Refusal::AddressBroadcast => 10,
+        Refusal::UnknownCommand => 11,
+        Refusal::OutOfRange => 12,
+        Refusal::BadFloat => 13,
+        Refusal::ForeignReply => 14,
+        Refusal::DeviceError(_) => 15,
+        Refusal::BadWordCount => 16,
+        Refusal::WrongCrc(_) => 17,
+        Refusal::BadScale => 18,
+    }
+}
