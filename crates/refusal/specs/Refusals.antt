@@ -6,7 +6,6 @@ use Rattle.refusal.specs.declared.Refusal.the-variants.{NoRoom, BadRecor
 
 -- 01, Refusal numbers: `number 4`, or `17 carrying 3`
 infix 30 _carrying_
-
 pub data Numbered : Type 0 where
   number : ℕ → Numbered
   _carrying_ : ℕ → ℕ → Numbered
