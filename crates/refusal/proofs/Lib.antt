@@ -1,1 +1,3 @@
+-- The laws of the definitions in specs/.
 pub mod OneToOne
+pub mod Room

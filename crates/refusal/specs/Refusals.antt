@@ -1,11 +1,13 @@
 -- The refusals of document 01 in its own words: a number of its table and, with 15 and 17, the value that the number carries.
 -- Every answer of every crate is stated through `paper`. The law `paper-one-to-one` of proofs/ says that nothing is lost by it.
 use Prim.Native.Nat.{ℕ}
+use mathlib.Core.Bool.{Bool, cond}
+use mathlib.Core.List.{List, [], _∷_}
 use Rattle.refusal.specs.declared.Refusal.{Refusal}
 use Rattle.refusal.specs.declared.Refusal.the-variants.{NoRoom, BadRecord, BadEscape, BareControl, BodyTooLong, BodyTooShort, WrongLength, WrongChecksum, CutBySilence, AddressBroadcast, UnknownCommand, OutOfRange, BadFloat, ForeignReply, DeviceError, BadWordCount, WrongCrc, BadScale}
 
--- 01, Refusal numbers: `number 4`, or `17 carrying 3`
 infix 30 _carrying_
+-- 01, Refusal numbers: `number 4`, or `17 carrying 3`
 pub data Numbered : Type 0 where
   number : ℕ → Numbered
   _carrying_ : ℕ → ℕ → Numbered
@@ -43,3 +45,8 @@ numberOf r = numberIn (paper r)
 pub data Answered (A : Type 0) : Type 0 where
   served : A → Answered A
   refused : Numbered → Answered A
+
+-- 01, Refusal numbers, "Order": the first number whose condition holds, else served
+abbrev pub inOrder : {A : Type 0} → List (Bool × Numbered) → A → Answered A
+inOrder [] a = served a
+inOrder (check ∷ checks) a = cond (check .0) (refused (check .1)) (inOrder checks a)

@@ -1,0 +1,66 @@
+-- Laws of `overlay` and `emit`. Assumes nothing.
+use mathlib.Core.Path.{_≡_, refl, sym, ap, subst, _∙_}
+use mathlib.Core.List.{List, [], _∷_, _++_, append-assoc}
+use Prim.Native.Nat.{ℕ, _+_, _≤_, _<_}
+use native.Mathlib.Nat.{add-zero, add-assoc}
+use native.Mathlib.Numerals.{add-one}
+use native.Mathlib.Omega.{arith}
+use borrow.Author.Tests.{lt-ltb, le-ltb}
+use lib.ListN.{length, take, drop, set, length-append, length-take, length-drop, take-append-drop}
+use lib.Seq.{drop-drop, take-at, drop-append-add, set-split, length-take-le}
+use Rattle.refusal.specs.Refusals.{number, served, refused}
+use Rattle.refusal.specs.Room.{overlay, emit}
+
+pub overlay-nothing : (room : List ℕ) (place : ℕ) → overlay room place [] ≡ room
+unfolding overlay
+overlay-nothing room place = rw add-zero (take-append-drop place room)
+
+-- one write after the other is one write
+pub overlay-more : (room : List ℕ) (place : ℕ) (xs ys : List ℕ) → place ≤ length room
+    → overlay (overlay room place xs) (place + length xs) ys ≡ overlay room place (xs ++ ys)
+unfolding overlay
+overlay-more room place xs ys h =
+    let f : List ℕ = take place room ++ xs in
+    let n : ℕ = place + length xs in
+    let d : List ℕ = drop n room in
+    let front : length f ≡ n = simp (length-append, length-take-le place room h) in
+    let whole : take place room ++ (xs ++ d) ≡ f ++ d = simp append-assoc in
+    let gone : drop (n + length ys) (f ++ d) ≡ drop (n + length ys) room =
+    subst (λ (m : ℕ). drop (m + length ys) (f ++ d) ≡ drop (n + length ys) room) front
+    (drop-append-add f d (length ys) ∙ drop-drop (length ys) n room) in
+    ap (λ (w : List ℕ). take n w ++ (ys ++ drop (n + length ys) w)) whole
+    ∙ ap (λ (w : List ℕ). w ++ (ys ++ drop (n + length ys) (f ++ d))) (take-at f d n front)
+    ∙ ap (λ (w : List ℕ). f ++ (ys ++ w)) gone
+    ∙ simp (append-assoc, length-append, add-assoc)
+
+-- the same, at a place that is known to be the end of the first
+pub overlay-then : (room : List ℕ) (place : ℕ) (xs ys : List ℕ) (next : ℕ) → place ≤ length room → next ≡ place + length xs
+    → overlay (overlay room place xs) next ys ≡ overlay room place (xs ++ ys)
+overlay-then room place xs ys next h e = rw e (overlay-more room place xs ys h)
+
+pub length-overlay : (room : List ℕ) (place : ℕ) (xs : List ℕ) → place + length xs ≤ length room → length (overlay room place xs) ≡ length room
+unfolding overlay
+length-overlay room place xs h = simp (length-append, length-take, length-drop) (omega arith)
+
+-- a store is a write of one element
+pub set-overlay : (room : List ℕ) (place b : ℕ) → place < length room → set room place b ≡ overlay room place (b ∷ [])
+unfolding overlay
+set-overlay room place b h = set-split room place b h ∙ rw (← add-one)
+
+-- the two cases of a writer
+module _ (bytes room : List ℕ) where
+  pub emit-refused : length room < length bytes → emit bytes room ≡ (refused (number 1), room)
+  unfolding emit
+  emit-refused h = rw (lt-ltb _ _ h)
+
+  pub emit-served : length bytes ≤ length room → emit bytes room ≡ (served (length bytes), overlay room 0 bytes)
+  unfolding emit
+  emit-served h = rw (le-ltb _ _ h)
+
+pub set-two : (room : List ℕ) (place a b : ℕ) → place + 1 < length room → set (set room place a) (place + 1) b ≡ overlay room place (a ∷ b ∷ [])
+set-two room place a b h =
+    let in₁ : place < length room = omega arith in
+    let in₂ : place ≤ length room = omega arith in
+    rw (set-overlay room place a in₁)
+    (set-overlay (overlay room place (a ∷ [])) (place + 1) b (rw (length-overlay room place (a ∷ []) (omega arith)) h)
+    ∙ overlay-more room place (a ∷ []) (b ∷ []) in₂)

@@ -1,0 +1,5 @@
+-- The laws of the definitions in specs/, a file for each subject.
+pub mod Rest
+pub mod Stuffing
+pub mod Body
+pub mod Frame

@@ -1,0 +1,76 @@
+-- Laws of stuffing: its length, its parts, and that unstuffing gives back what was stuffed. Assumes nothing.
+use mathlib.Core.Path.{_≡_, refl, sym, ap, subst, _∙_}
+use mathlib.Core.Bool.{Bool, true, false, cond}
+use mathlib.Core.List.{List, [], _∷_, _++_, append-assoc, append-nil}
+use mathlib.Core.Option.{Option, none, some}
+use Prim.Native.Nat.{ℕ, _+_, _*_, _≤_, _<_}
+use native.Mathlib.Omega.{arith}
+use lib.Dec.{eqb}
+use borrow.Author.Tests.{eqb-true}
+use lib.ListN.{length, getD, drop, length-append}
+use Rattle.refusal.specs.Refusals.{Answered, served, refused}
+use Rattle.shdlc.specs.Stuffing.{escapes, rightOf, leftOf, sent, stuffByte, stuff, isControl, prepend, meant, unstuff, unstuffEscaped}
+use Rattle.shdlc.proofs.Rest.{rest-here}
+
+-- how a byte is sent, from its row of the table
+pub sent-as : (b : ℕ) {row : Option ℕ} → row ≡ rightOf escapes b → stuffByte b ≡ sent b row
+unfolding stuffByte
+sent-as b e = ap (sent b) (sym e)
+
+sent-short : (b : ℕ) (row : Option ℕ) → (1 ≤ length (sent b row)) × (length (sent b row) ≤ 2)
+sent-short b none = (omega arith, omega arith)
+sent-short b (some e) = (omega arith, omega arith)
+
+pub byte-short : (b : ℕ) → (1 ≤ length (stuffByte b)) × (length (stuffByte b) ≤ 2)
+unfolding stuffByte
+byte-short b = sent-short b (rightOf escapes b)
+
+pub stuff-short : (bytes : List ℕ) → length (stuff bytes) ≤ 2 * length bytes
+unfolding stuff
+stuff-short [] = omega arith
+stuff-short (b ∷ bytes) = rw length-append (omega (arith, byte-short b .1, stuff-short bytes))
+
+pub stuff-nothing : stuff [] ≡ []
+unfolding stuff
+stuff-nothing = refl
+
+pub stuff-append : (xs ys : List ℕ) → stuff (xs ++ ys) ≡ stuff xs ++ stuff ys
+unfolding stuff
+stuff-append [] ys = refl
+stuff-append (x ∷ xs) ys = ap (λ (l : List ℕ). stuffByte x ++ l) (stuff-append xs ys) ∙ sym (append-assoc (stuffByte x) (stuff xs) (stuff ys))
+
+pub stuff-one : (b : ℕ) → stuff (b ∷ []) ≡ stuffByte b
+unfolding stuff
+stuff-one b = append-nil (stuffByte b)
+
+-- the byte at a place, and the bytes after it
+pub stuff-here : (l : List ℕ) (i : ℕ) → i < length l → stuff (drop i l) ≡ stuffByte (getD l i 0) ++ stuff (drop (i + 1) l)
+unfolding stuff
+stuff-here l i h = rw (rest-here l i h)
+
+pub length-here : (l : List ℕ) (i : ℕ) → i < length l → length (stuff (drop i l)) ≡ length (stuffByte (getD l i 0)) + length (stuff (drop (i + 1) l))
+length-here l i h = rw (stuff-here l i h, length-append)
+
+-- a byte that is sent comes back
+module _ (bytes : List ℕ) where
+  abbrev Back : ℕ → Type 0
+  Back b = unstuff (stuffByte b ++ bytes) ≡ prepend b (unstuff bytes)
+
+  is : (b k : ℕ) → eqb b k ≡ true → Back k → Back b
+  is b k e h = subst Back (sym (eqb-true b k e)) h
+
+  byte-back : (b : ℕ) → Back b
+  unfolding stuffByte unstuff
+  byte-back b = go (eqb b 0x7E) (eqb b 0x7D) (eqb b 0x11) (eqb b 0x13) refl refl refl refl
+    where
+      go : (x y z w : Bool) → eqb b 0x7E ≡ x → eqb b 0x7D ≡ y → eqb b 0x11 ≡ z → eqb b 0x13 ≡ w → Back b
+      go true y z w p q r s = is b 0x7E p refl
+      go false true z w p q r s = is b 0x7D q refl
+      go false false true w p q r s = is b 0x11 r refl
+      go false false false true p q r s = is b 0x13 s refl
+      go false false false false p q r s = simp (p, q, r, s)
+
+pub unstuff-stuff : (bytes : List ℕ) → unstuff (stuff bytes) ≡ served bytes
+unfolding stuff unstuff prepend
+unstuff-stuff [] = refl
+unstuff-stuff (b ∷ bytes) = byte-back (stuff bytes) b ∙ ap (prepend b) (unstuff-stuff bytes)
