@@ -1,3 +1,4 @@
 -- The laws of the definitions in specs/.
 pub mod OneToOne
+pub mod Order
 pub mod Room

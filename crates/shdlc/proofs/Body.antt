@@ -2,13 +2,14 @@
 use mathlib.Core.Path.{_≡_, refl, sym, ap, _∙_}
 use mathlib.Core.Bool.{Bool, true, false, cond, not}
 use mathlib.Core.List.{List, [], _∷_, _++_, append-assoc}
-use Prim.Native.Nat.{ℕ, _+_, _-_, _%_, _≤_, _<_}
+use Prim.Native.Nat.{ℕ, suc, _+_, _-_, _%_, _≤_, _<_}
 use native.Mathlib.Omega.{arith}
 use lib.Dec.{ltb, eqb}
-use borrow.Author.Tests.{lt-ltb, le-ltb, eq-eqb, ne-eqb, ltb-true, ltb-false}
+use borrow.Author.Tests.{lt-ltb, le-ltb, eq-eqb, ne-eqb, ltb-false, eqb-true}
 use lib.ListN.{length, getD, take, length-append}
-use lib.Seq.{take-at, getD-at}
-use Rattle.refusal.specs.Refusals.{Numbered, number, Answered, served, refused}
+use lib.Seq.{take-at, getD-at, take-all, take-suc}
+use Rattle.refusal.specs.Refusals.{number, served, refused, inOrder}
+use Rattle.refusal.proofs.Order.{passed}
 use Rattle.shdlc.specs.declared.Kind.{Kind}
 use Rattle.shdlc.specs.declared.Kind.the-variants.{Request, Reply}
 use Rattle.shdlc.specs.Checksum.{checksumOf}
@@ -73,3 +74,45 @@ module _ (kind : Kind) (front payload : List ℕ) (before : length front ≡ len
       rw append-assoc (getD-at front (length payload) (payload ++ (checksumOf body ∷ [])) 0 (lengthPlace kind) before) in
       body-good kind (withChecksum body) (omega arith) (omega arith) (omega arith)
       (getD-at body (checksumOf body) [] 0 _ last ∙ ap checksumOf (sym (take-at body (checksumOf body ∷ []) _ last)))
+
+not-false : (t : Bool) → not t ≡ false → t ≡ true
+not-false true h = refl
+not-false false h = sym h
+
+-- what a body that passes its checks shows
+pub record Passes (kind : Kind) (b : List ℕ) : Type 0 where
+  pub most : length b ≤ longest kind
+  pub least : shortest kind ≤ length b
+  pub length-right : getD b (lengthPlace kind) 0 ≡ length b - shortest kind
+  pub sum-right : getD b (length b - 1) 0 ≡ checksumOf (take (length b - 1) b)
+
+pub passes : (kind : Kind) (b : List ℕ) → checkBody kind b ≡ served b → Passes kind b
+unfolding checkBody
+passes kind b h =
+    go (ltb (longest kind) (length b)) (ltb (length b) (shortest kind)) (eqb (getD b (lengthPlace kind) 0) (length b - shortest kind))
+    (eqb (getD b (length b - 1) 0) (checksumOf (take (length b - 1) b))) refl refl refl refl h
+  where
+    go : (x y z w : Bool) → ltb (longest kind) (length b) ≡ x → ltb (length b) (shortest kind) ≡ y
+        → eqb (getD b (lengthPlace kind) 0) (length b - shortest kind) ≡ z
+        → eqb (getD b (length b - 1) 0) (checksumOf (take (length b - 1) b)) ≡ w
+        → inOrder ((x, number 5) ∷ (y, number 6) ∷ (not z, number 7) ∷ (not w, number 8) ∷ []) b ≡ served b → Passes kind b
+    go x y z w p q r s e =
+        let long = passed x (number 5) (inOrder ((y, number 6) ∷ (not z, number 7) ∷ (not w, number 8) ∷ []) b) b e in
+        let short = passed y (number 6) (inOrder ((not z, number 7) ∷ (not w, number 8) ∷ []) b) b (long .1) in
+        let wrong-length = passed (not z) (number 7) (inOrder ((not w, number 8) ∷ []) b) b (short .1) in
+        let wrong-sum = passed (not w) (number 8) (served b) b (wrong-length .1) in
+        record {
+          most = ltb-false _ _ (p ∙ long .0);
+          least = ltb-false _ _ (q ∙ short .0);
+          length-right = eqb-true _ _ (r ∙ not-false z (wrong-length .0));
+          sum-right = eqb-true _ _ (s ∙ not-false w (wrong-sum .0));
+        }
+
+-- a body that passes its checks is what stands before its checksum, with that checksum
+pub checked-body : (kind : Kind) (b : List ℕ) → checkBody kind b ≡ served b → b ≡ withChecksum (take (length b - 1) b)
+checked-body kind b h =
+    let n = length b - 1 in
+    let is = passes kind b h in
+    let inside : n < length b = omega (arith, shortest-is kind) in
+    let whole : length b ≤ suc n = omega arith in
+    sym (take-all (suc n) b whole) ∙ take-suc b n 0 inside ∙ ap (λ (x : ℕ). take n b ++ (x ∷ [])) (is .sum-right)

@@ -3,3 +3,4 @@ pub mod Rest
 pub mod Stuffing
 pub mod Body
 pub mod Frame
+pub mod Stream

@@ -1,0 +1,110 @@
+-- Laws of a stream: the place that it leaves, the items of a stream that goes on, and the one item of a frame that was written.
+-- Assumes nothing.
+use mathlib.Core.Path.{_≡_, refl, sym, ap, subst, _∙_}
+use mathlib.Core.Bool.{Bool, true, false, cond}
+use mathlib.Core.List.{List, [], _∷_, _++_, map, append-assoc, append-nil}
+use mathlib.Core.Option.{Option, none, some}
+use Prim.Native.Nat.{ℕ, _+_, _≤_}
+use native.Mathlib.Omega.{arith}
+use lib.Dec.{eqb}
+use borrow.Author.Tests.{eqb-true}
+use lib.ListN.{length, length-append}
+use Rattle.refusal.specs.Refusals.{number, Answered, served, refused}
+use Rattle.shdlc.specs.declared.Kind.{Kind}
+use Rattle.shdlc.specs.Checksum.{checksumOf}
+use Rattle.shdlc.specs.Stuffing.{escapes, rightOf, sent, stuffByte, stuff}
+use Rattle.shdlc.specs.Body.{checkBody}
+use Rattle.shdlc.specs.Frame.{withChecksum, frameOf}
+use Rattle.shdlc.specs.Stream.{Event, byte, mark, Item, judgeBody, judge, Place, outside, inside, nextByte, next, gain, itemsFrom, items}
+use Rattle.shdlc.proofs.Stuffing.{byte-short, unstuff-stuff}
+
+-- the place after a stream
+pub placeFrom : Place → List Event → Place
+placeFrom place [] = place
+placeFrom place (event ∷ events) = placeFrom (next place event) events
+
+pub place-append : (es fs : List Event) (place : Place) → placeFrom place (es ++ fs) ≡ placeFrom (placeFrom place es) fs
+unfolding placeFrom
+place-append [] fs place = refl
+place-append (e ∷ es) fs place = place-append es fs (next place e)
+
+pub items-append : (kind : Kind) (es fs : List Event) (place : Place)
+    → itemsFrom kind place (es ++ fs) ≡ itemsFrom kind place es ++ itemsFrom kind (placeFrom place es) fs
+unfolding itemsFrom placeFrom
+items-append kind [] fs place = refl
+items-append kind (e ∷ es) fs place = rw (items-append kind es fs (next place e), append-assoc)
+
+-- no byte of the list is 7E
+abbrev Unbroken : List ℕ → Type 0
+Unbroken [] = Unit {0}
+Unbroken (b ∷ bytes) = (eqb b 0x7E ≡ false) × Unbroken bytes
+
+unbroken-append : (xs ys : List ℕ) → Unbroken xs → Unbroken ys → Unbroken (xs ++ ys)
+unbroken-append [] ys h g = g
+unbroken-append (x ∷ xs) ys h g = (h .0, unbroken-append xs ys (h .1) g)
+
+unbroken-byte : (b : ℕ) → Unbroken (stuffByte b)
+unfolding stuffByte
+unbroken-byte b = go (eqb b 0x7E) (eqb b 0x7D) (eqb b 0x11) (eqb b 0x13) refl refl refl refl
+  where
+    go : (x y z w : Bool) → eqb b 0x7E ≡ x → eqb b 0x7D ≡ y → eqb b 0x11 ≡ z → eqb b 0x13 ≡ w → Unbroken (sent b (rightOf escapes b))
+    go true y z w p q r s = rw p (refl, (refl, tt))
+    go false true z w p q r s = rw (p, q) (refl, (refl, tt))
+    go false false true w p q r s = rw (p, q, r) (refl, (refl, tt))
+    go false false false true p q r s = rw (p, q, r, s) (refl, (refl, tt))
+    go false false false false p q r s = rw (p, q, r, s) (p, tt)
+
+unbroken-stuff : (bytes : List ℕ) → Unbroken (stuff bytes)
+unfolding stuff
+unbroken-stuff [] = tt
+unbroken-stuff (b ∷ bytes) = unbroken-append (stuffByte b) (stuff bytes) (unbroken-byte b) (unbroken-stuff bytes)
+
+-- a byte other than 7E gives no item, and is one more of its stretch
+gain-inside : (kind : Kind) (stretch : List ℕ) (b : ℕ) → eqb b 0x7E ≡ false → gain kind (inside stretch) (byte b) ≡ []
+unfolding gain
+gain-inside kind [] b h = refl
+gain-inside kind (x ∷ stretch) b h = rw h
+
+run-items : (kind : Kind) (bytes stretch : List ℕ) → Unbroken bytes → itemsFrom kind (inside stretch) (map byte bytes) ≡ []
+unfolding itemsFrom next nextByte
+run-items kind [] stretch h = refl
+run-items kind (b ∷ bytes) stretch h = rw (gain-inside kind stretch b (h .0), h .0) (run-items kind bytes (stretch ++ (b ∷ [])) (h .1))
+
+run-place : (bytes stretch : List ℕ) → Unbroken bytes → placeFrom (inside stretch) (map byte bytes) ≡ inside (stretch ++ bytes)
+unfolding placeFrom next nextByte
+run-place [] stretch h = ap inside (sym (append-nil stretch))
+run-place (b ∷ bytes) stretch h =
+    ap (λ (t : Bool). placeFrom (nextByte t b (inside stretch)) (map byte bytes)) (h .0)
+    ∙ run-place bytes (stretch ++ (b ∷ [])) (h .1)
+    ∙ ap inside (append-assoc stretch (b ∷ []) bytes)
+
+closing : (kind : Kind) (stretch : List ℕ) → 1 ≤ length stretch → gain kind (inside stretch) (byte 0x7E) ≡ judge kind stretch ∷ []
+unfolding gain
+closing kind [] h = absurd (omega arith)
+closing kind (b ∷ stretch) h = refl
+
+map-append : (xs ys : List ℕ) → map byte (xs ++ ys) ≡ map byte xs ++ map byte ys
+map-append [] ys = refl
+map-append (x ∷ xs) ys = ap (λ (l : List Event). byte x ∷ l) (map-append xs ys)
+
+stuffed-some : (bytes : List ℕ) → 1 ≤ length bytes → 1 ≤ length (stuff bytes)
+unfolding stuff
+stuffed-some [] h = omega arith
+stuffed-some (b ∷ bytes) h = omega (arith, length-append (stuffByte b) (stuff bytes), byte-short b .0)
+
+-- a frame on the wire has one item, that of its stretch
+pub wire-items : (kind : Kind) (bytes : List ℕ) → 1 ≤ length bytes
+    → items kind (map byte (0x7E ∷ stuff bytes ++ (0x7E ∷ []))) ≡ judgeBody kind (served bytes) ∷ []
+unfolding items itemsFrom next nextByte gain judge
+wire-items kind bytes h =
+    let s = stuff bytes in
+    let u = unbroken-stuff bytes in
+    rw (map-append s (0x7E ∷ []), items-append kind (map byte s) (byte 0x7E ∷ []) (inside []), run-items kind s [] u, run-place s [] u, closing kind s (stuffed-some bytes h))
+    (ap (λ (r : Answered (List ℕ)). judgeBody kind r ∷ []) (unstuff-stuff bytes))
+
+-- a frame that the writer wrote, where its body passes the checks
+pub frame-items : (kind : Kind) (body : List ℕ) → checkBody kind (withChecksum body) ≡ served (withChecksum body)
+    → items kind (map byte (frameOf body)) ≡ served (withChecksum body) ∷ []
+unfolding frameOf judgeBody
+frame-items kind body h =
+    wire-items kind (withChecksum body) (omega (arith, length-append body (checksumOf body ∷ []))) ∙ ap (λ (r : Answered (List ℕ)). r ∷ []) h
