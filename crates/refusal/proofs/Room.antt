@@ -1,15 +1,16 @@
 -- Laws of `overlay` and `emit`. Assumes nothing.
 use mathlib.Core.Path.{_≡_, refl, sym, ap, subst, _∙_}
-use mathlib.Core.List.{List, [], _∷_, _++_, append-assoc}
+use mathlib.Core.List.{List, [], _∷_, _++_, append-assoc, append-nil}
 use Prim.Native.Nat.{ℕ, _+_, _≤_, _<_}
 use native.Mathlib.Nat.{add-zero, add-assoc}
 use native.Mathlib.Numerals.{add-one}
 use native.Mathlib.Omega.{arith}
 use borrow.Author.Tests.{lt-ltb, le-ltb}
-use lib.ListN.{length, take, drop, set, length-append, length-take, length-drop, take-append-drop}
+use lib.ListN.{length, getD, take, drop, set, length-append, length-take, length-drop, take-append-drop, drop-of-length-le}
 use lib.Seq.{drop-drop, take-at, drop-append-add, set-split, length-take-le}
 use Rattle.refusal.specs.Refusals.{number, served, refused}
 use Rattle.refusal.specs.Room.{overlay, emit}
+use Rattle.refusal.proofs.Rest.{rest-here, rest-end}
 
 pub overlay-nothing : (room : List ℕ) (place : ℕ) → overlay room place [] ≡ room
 unfolding overlay
@@ -64,3 +65,21 @@ set-two room place a b h =
     rw (set-overlay room place a in₁)
     (set-overlay (overlay room place (a ∷ [])) (place + 1) b (rw (length-overlay room place (a ∷ []) (omega arith)) h)
     ∙ overlay-more room place (a ∷ []) (b ∷ []) in₂)
+
+-- a loop that writes a list from a place on: one element more, and the end
+module _ (room l : List ℕ) (place i : ℕ) where
+  pub write-here : i < length l → place < length room
+      → overlay (set room place (getD l i 0)) (place + 1) (drop (i + 1) l) ≡ overlay room place (drop i l)
+  write-here h g =
+      rw (set-overlay room place (getD l i 0) g)
+      (overlay-then room place (getD l i 0 ∷ []) (drop (i + 1) l) (place + 1) (omega arith) (omega arith) ∙ rw (rest-here l i h))
+
+  pub write-end : length l ≤ i → overlay room place (drop i l) ≡ room
+  write-end h = rw (rest-end l i h) (overlay-nothing room place)
+
+-- the whole room written over
+pub overlay-all : (room bytes : List ℕ) → length bytes ≡ length room → overlay room 0 bytes ≡ bytes
+unfolding overlay
+overlay-all room bytes h =
+    let past : length room ≤ 0 + length bytes = omega arith in
+    ap (λ (l : List ℕ). bytes ++ l) (drop-of-length-le room past) ∙ append-nil bytes

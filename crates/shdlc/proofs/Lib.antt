@@ -1,5 +1,4 @@
 -- The laws of the definitions in specs/, a file for each subject.
-pub mod Rest
 pub mod Stuffing
 pub mod Body
 pub mod Frame

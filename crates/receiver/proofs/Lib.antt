@@ -1,0 +1,3 @@
+-- The laws of the definitions in specs/, and demand 3.
+pub mod Turns
+pub mod Cases
