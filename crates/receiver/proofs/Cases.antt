@@ -1,9 +1,9 @@
 -- The cases of the models, each by the tests that lead to it. Assumes nothing.
-use Prim.Native.Nat.{ℕ, _<_, _≤_}
+use Prim.Native.Nat.{ℕ, _+_, _<_, _≤_}
 use native.Mathlib.Omega.{arith}
 use mathlib.Core.Path.{_≡_, refl, sym, ap, _∙_}
 use mathlib.Core.Bool.{Bool, true, false, cond, not, _&&_, false≢true}
-use mathlib.Core.List.{List, []}
+use mathlib.Core.List.{List, [], _∷_}
 use borrow.Author.Tests.{ltb-false, lt-ltb, le-ltb, eqb-true}
 use lib.Dec.{ltb, eqb}
 use lib.ListN.{length, take}
@@ -15,8 +15,9 @@ use Rattle.shdlc.specs.Body.{checkBody}
 use Rattle.shdlc.specs.Stream.{Item}
 use Rattle.receiver.specs.declared.Mode.{Mode}
 use Rattle.receiver.specs.declared.Mode.the-variants.{Outside, Plain, Escaped, BadEscape, BareControl}
-use Rattle.receiver.specs.Record.{Record, lengthInRange, inRange, opened, silenced, pending, itemIn, itemOf}
-use Rattle.receiver.specs.Calls.{Said, nothing, gave, Outcome, saidOf, bufferOf, Scan, refusedCall, completed, unfinished, scanFrom, fedBy, feedOf, silenceOf}
+use Rattle.receiver.specs.declared.Fed.{Fed}
+use Rattle.receiver.specs.Record.{Record, lengthInRange, inRange, opened, silenced, pending, itemIn, itemOf, nextByte}
+use Rattle.receiver.specs.Calls.{Said, nothing, gave, Outcome, saidOf, bufferOf, Scan, paperFed, refusedCall, completed, unfinished, closes, scanFrom, fedBy, feedOf, silenceOf}
 
 -- a test of the code that is negated
 pub not-true : (t : Bool) → not t ≡ true → t ≡ false
@@ -97,3 +98,36 @@ module _ (r : Record) (taken : ℕ) (buffer : List ℕ) where
   pub completed-refused : (n : Numbered) → itemOf r ≡ refused n
       → completed r taken buffer ≡ record { leaves = opened r; result = record { said = gave (refused n); taken = taken; buffer = buffer } }
   completed-refused n e = ap (shown r taken buffer) e
+
+-- no more bytes are taken than the piece has
+scan-taken-test : (t : Bool) (a b : Scan) (n : ℕ) → a .taken ≤ n → b .taken ≤ n → cond t a b .taken ≤ n
+scan-taken-test true a b n p q = p
+scan-taken-test false a b n p q = q
+
+scan-taken : (piece : List ℕ) (n : ℕ) (r : Record) → scanFrom n r piece .taken ≤ n + length piece
+unfolding scanFrom
+scan-taken [] n r = omega arith
+scan-taken (b ∷ piece) n r =
+    scan-taken-test (closes r b) (record { before = r; taken = n + 1; closed = true }) (scanFrom (n + 1) (nextByte r b) piece) (n + length (b ∷ piece))
+    (omega arith) (omega (arith, scan-taken piece (n + 1) (nextByte r b)))
+
+fed-taken : (t : Bool) (r : Record) (n : ℕ) (buffer : List ℕ) → cond t (completed r n buffer) (unfinished r n buffer) .result .taken ≡ n
+fed-taken true r n buffer = refl
+fed-taken false r n buffer = refl
+
+feed-taken : (r : Record) (piece buffer : List ℕ) → feedOf r piece buffer .result .taken ≤ length piece
+unfolding feedOf
+feed-taken r piece buffer = go (inRange r) (ltb (length buffer) 260)
+  where
+    go : (t u : Bool)
+        → cond t (cond u (refusedCall 1 r buffer) (fedBy (scanFrom 0 r piece) buffer)) (refusedCall 2 r buffer) .result .taken ≤ length piece
+    go true true = omega arith
+    go true false =
+        let s = scanFrom 0 r piece in omega (arith, fed-taken (s .closed) (s .before) (s .taken) buffer, scan-taken piece 0 r)
+    go false u = omega arith
+
+-- the same, as a caller of `feed` has it from the contract
+pub taken-within : (f : Fed) (store after : List ℕ) (r : Record) (piece buffer : List ℕ) → paperFed f store after ≡ feedOf r piece buffer
+    → f .taken ≤ length piece
+taken-within f store after r piece buffer e =
+    let t : f .taken ≡ feedOf r piece buffer .result .taken = ap (λ (x : Outcome). x .result .taken) e in omega (arith, feed-taken r piece buffer)

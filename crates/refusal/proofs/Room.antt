@@ -5,11 +5,14 @@ use Prim.Native.Nat.{ℕ, _+_, _≤_, _<_}
 use native.Mathlib.Nat.{add-zero, add-assoc}
 use native.Mathlib.Numerals.{add-one}
 use native.Mathlib.Omega.{arith}
-use borrow.Author.Tests.{lt-ltb, le-ltb}
+use mathlib.Core.Bool.{Bool, true, false, cond}
+use lib.Dec.{ltb}
+use borrow.Author.Tests.{lt-ltb, le-ltb, ltb-false}
 use lib.ListN.{length, getD, take, drop, set, length-append, length-take, length-drop, take-append-drop, drop-of-length-le}
-use lib.Seq.{drop-drop, take-at, drop-append-add, set-split, length-take-le}
-use Rattle.refusal.specs.Refusals.{number, served, refused}
+use lib.Seq.{drop-drop, take-at, drop-append-add, set-split, length-take-le, take-append-seam}
+use Rattle.refusal.specs.Refusals.{number, Answered, served, refused}
 use Rattle.refusal.specs.Room.{overlay, emit}
+use Rattle.refusal.proofs.Order.{refused-not-served}
 use Rattle.refusal.proofs.Rest.{rest-here, rest-end}
 
 pub overlay-nothing : (room : List ℕ) (place : ℕ) → overlay room place [] ≡ room
@@ -38,6 +41,16 @@ overlay-more room place xs ys h =
 pub overlay-then : (room : List ℕ) (place : ℕ) (xs ys : List ℕ) (next : ℕ) → place ≤ length room → next ≡ place + length xs
     → overlay (overlay room place xs) next ys ≡ overlay room place (xs ++ ys)
 overlay-then room place xs ys next h e = rw e (overlay-more room place xs ys h)
+
+-- two writers, each of which answers the place after what it wrote
+pub write-then : (room after end xs ys : List ℕ) (place p q : ℕ) → place ≤ length room
+    → (p ≡ place + length xs) × (after ≡ overlay room place xs) → (q ≡ p + length ys) × (end ≡ overlay after p ys)
+    → (q ≡ place + length (xs ++ ys)) × (end ≡ overlay room place (xs ++ ys))
+write-then room after end xs ys place p q h e f =
+    (
+      omega (arith, e .0, f .0, length-append xs ys),
+      f .1 ∙ ap (λ (w : List ℕ). overlay w p ys) (e .1) ∙ overlay-then room place xs ys p h (e .0),
+    )
 
 pub length-overlay : (room : List ℕ) (place : ℕ) (xs : List ℕ) → place + length xs ≤ length room → length (overlay room place xs) ≡ length room
 unfolding overlay
@@ -83,3 +96,25 @@ unfolding overlay
 overlay-all room bytes h =
     let past : length room ≤ 0 + length bytes = omega arith in
     ap (λ (l : List ℕ). bytes ++ l) (drop-of-length-le room past) ∙ append-nil bytes
+
+-- what was written at the start, read again
+pub take-overlay : (room bytes : List ℕ) → take (length bytes) (overlay room 0 bytes) ≡ bytes
+unfolding overlay
+take-overlay room bytes = take-append-seam bytes (drop (0 + length bytes) room)
+
+pub overlay-holds : (room bytes : List ℕ) → length bytes ≤ length (overlay room 0 bytes)
+unfolding overlay
+overlay-holds room bytes = simp length-append (omega arith)
+
+-- a writer that served wrote no more than the room has
+pub served-within : (bytes room after : List ℕ) (n : ℕ) → (served n, after) ≡ emit bytes room → n ≤ length room
+unfolding emit
+served-within bytes room after n e = go (ltb (length room) (length bytes)) refl e
+  where
+    go : (t : Bool) → ltb (length room) (length bytes) ≡ t
+        → _≡_ {A = Answered ℕ × List ℕ} (served n, after) (cond t (refused (number 1), room) (served (length bytes), overlay room 0 bytes)) → n ≤ length room
+    go true h f = absurd (refused-not-served (sym (ap (λ (x : Answered ℕ × List ℕ). x .0) f)))
+    go false h f =
+        let same : served n ≡ served (length bytes) = ap (λ (x : Answered ℕ × List ℕ). x .0) f in
+        let is : n ≡ length bytes = cc in
+        omega (arith, ltb-false (length room) (length bytes) h)
