@@ -64,6 +64,13 @@ fn read_some(piece: &mut [u8]) -> usize
     io::count(got, piece)
 }
 
+// How much to ask for: a piece, but no more than is left of the limit.
+fn piece_size(left: u32) -> usize
+    ensures { λ r. ⌜ (r ≤ left) × (r ≤ 1024) ⌝ }
+{
+    if left < 1024 { left as usize } else { 1024 }
+}
+
 fn main() {
     let mut store = [0u8; 260];
     let mut frame = [0u8; 260];
@@ -74,7 +81,7 @@ fn main() {
     let mut r = fresh;
     let mut left = LIMIT;
     while 0 < left {
-        let want = if left < 1024 { left as usize } else { 1024 };
+        let want = piece_size(left);
         let n = read_some(&mut piece[..want]);
         if n == 0 {
             break;

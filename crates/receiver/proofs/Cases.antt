@@ -15,8 +15,9 @@ use Rattle.shdlc.specs.Body.{checkBody}
 use Rattle.shdlc.specs.Stream.{Item}
 use Rattle.receiver.specs.declared.Mode.{Mode}
 use Rattle.receiver.specs.declared.Mode.the-variants.{Outside, Plain, Escaped, BadEscape, BareControl}
+use Rattle.receiver.specs.declared.Receiver.{Receiver}
 use Rattle.receiver.specs.declared.Fed.{Fed}
-use Rattle.receiver.specs.Record.{Record, lengthInRange, inRange, opened, silenced, pending, itemIn, itemOf, nextByte}
+use Rattle.receiver.specs.Record.{Record, held, outsideOf, lengthInRange, inRange, opened, silenced, pending, itemIn, itemOf, nextByte}
 use Rattle.receiver.specs.Calls.{Said, nothing, gave, Outcome, saidOf, bufferOf, Scan, paperFed, refusedCall, completed, unfinished, closes, scanFrom, fedBy, feedOf, silenceOf}
 
 -- a test of the code that is negated
@@ -70,6 +71,11 @@ module _ (r : Record) (piece buffer : List ℕ) where
 -- a mark
 abbrev pub quiet : Record → Said → Outcome
 quiet r said = record { leaves = silenced r; result = record { said = said; taken = 0; buffer = [] } }
+
+-- the same from the struct that the code makes
+pub quiet-left : (x : Receiver) (r : Record) (said : Said) → x ≡ outsideOf (r .kind)
+    → _≡_ {A = Outcome} (record { leaves = held x (r .store); result = record { said = said; taken = 0; buffer = [] } }) (quiet r said)
+quiet-left x r said e = ap (λ (y : Receiver). record { leaves = held y (r .store); result = record { said = said; taken = 0; buffer = [] } }) e
 
 module _ (r : Record) where
   pub silence-range : inRange r ≡ false → silenceOf r ≡ refusedCall 2 r []

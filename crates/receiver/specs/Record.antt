@@ -37,8 +37,12 @@ lengthInRange BareControl n = ltb n 262
 abbrev pub inRange : Record → Bool
 inRange r = eqb (length (r .store)) 260 && lengthInRange (r .mode) (r .len)
 
+-- before the first 7E, and after a mark
+abbrev pub outsideOf : Kind → Receiver
+outsideOf kind = record { kind = kind; mode = Outside; len = 0 }
+
 abbrev pub fresh : Kind → Record
-fresh kind = record { kind = kind; mode = Outside; len = 0; store = replicate 260 0 }
+fresh kind = held (outsideOf kind) (replicate 260 0)
 
 -- what a byte after a 7D does
 abbrev pub unescape : Option ℕ → Act
@@ -68,7 +72,7 @@ opened r = record { kind = r .kind; mode = Plain; len = 0; store = r .store }
 
 -- after a mark bytes are noise
 abbrev pub silenced : Record → Record
-silenced r = record { kind = r .kind; mode = Outside; len = 0; store = r .store }
+silenced r = held (outsideOf (r .kind)) (r .store)
 
 -- whether the stretch has a byte
 abbrev pub pendingIn : Mode → ℕ → Bool

@@ -10,7 +10,7 @@ ghost use lib.Dec.{eqb};
 ghost use lib.ListN.{length, take, drop, replicate};
 ghost use Rattle.refusal.specs.Room.{overlay};
 ghost use Rattle.shdlc.specs.Paper.{paperChecked};
-ghost use Rattle.receiver.specs.Record.{held, lengthInRange, actOf, pendingIn, itemIn};
+ghost use Rattle.receiver.specs.Record.{held, outsideOf, lengthInRange, actOf, pendingIn, itemIn};
 ghost use Rattle.receiver.specs.Calls.{paperFed, paperQuiet, paperMade, freshOf, feedOf, silenceOf, completed, scannedAs, scanFrom};
 
 // Where the receiver stands: before the first 7E or after silence; in a stretch; in one after a 7D; in one with the fault of
@@ -140,6 +140,17 @@ fn in_range(mode: Mode, len: usize, size: usize) -> bool
     length_in_range(mode, len)
 }
 
+// Before the first 7E, and after silence.
+fn outside(kind: Kind) -> Receiver
+    ensures { λ r. ⌜ r ≡ outsideOf kind ⌝ }
+{
+    Receiver {
+        kind,
+        mode: Mode::Outside,
+        len: 0,
+    }
+}
+
 // Fills the store with zeros.
 fn clear(store: &mut [u8])
     ensures { λ r. ⌜ now (store .exit) ≡ replicate (length (now (store .entry))) 0 ⌝ }
@@ -159,11 +170,7 @@ pub fn fresh(kind: Kind, store: &mut [u8]) -> Made
         return Made::Refused(Refusal::NoRoom);
     }
     clear(store);
-    Made::Fresh(Receiver {
-        kind,
-        mode: Mode::Outside,
-        len: 0,
-    })
+    Made::Fresh(outside(kind))
 }
 
 // The item of a stretch that a 7E ends: a frame is the first len bytes of the store.
@@ -324,11 +331,7 @@ pub fn silence(r: Receiver, store: &[u8]) -> Quiet
             answer: Answer::Refused(Refusal::BadRecord),
         };
     }
-    let after = Receiver {
-        kind,
-        mode: Mode::Outside,
-        len: 0,
-    };
+    let after = outside(kind);
     if is_pending(mode, len) {
         return Quiet {
             receiver: after,
