@@ -3,3 +3,4 @@ pub mod Turns
 pub mod Cases
 pub mod Simulation
 pub mod EverySeries
+pub mod OneToOne

@@ -59,7 +59,7 @@ length-overlay room place xs h = simp (length-append, length-take, length-drop) 
 -- a store is a write of one element
 pub set-overlay : (room : List ℕ) (place b : ℕ) → place < length room → set room place b ≡ overlay room place (b ∷ [])
 unfolding overlay
-set-overlay room place b h = set-split room place b h ∙ rw (← add-one)
+set-overlay room place b h = set-split room place b h ∙ rw (← add-one place)
 
 -- the two cases of a writer
 module _ (bytes room : List ℕ) where

@@ -3,3 +3,4 @@ pub mod Stuffing
 pub mod Body
 pub mod Frame
 pub mod Stream
+pub mod OneToOne
