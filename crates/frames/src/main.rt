@@ -14,10 +14,23 @@ ghost use lib.ListN.{length};
 // The most bytes that are read.
 const LIMIT: u32 = 4_294_967_295;
 
+// Writes all of a text, or stops at the first write that takes nothing.
+fn write_text(fd: i32, text: &[u8]) {
+    let mut done: usize = 0;
+    while done < text.len() {
+        let rest = &text[done..];
+        let n = io::count(libc::write(fd, rest), rest);
+        if n == 0 {
+            return;
+        }
+        done += n;
+    }
+}
+
 fn print(line: Line) {
     let mut text = [0u8; 24];
     if let Written::Done(n) = lines::write_line(line, &mut text) {
-        io::write_all(STDOUT_FILENO, &text[..n]);
+        write_text(STDOUT_FILENO, &text[..n]);
     }
 }
 
@@ -59,7 +72,7 @@ fn read_some(piece: &mut [u8]) -> usize
 {
     let got = libc::read(STDIN_FILENO, piece);
     if got < 0 {
-        io::write_all(STDERR_FILENO, b"frames: standard input cannot be read\n");
+        write_text(STDERR_FILENO, b"frames: standard input cannot be read\n");
     }
     io::count(got, piece)
 }

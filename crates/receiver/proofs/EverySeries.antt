@@ -405,9 +405,9 @@ whole kind (feeding piece buffer ∷ calls) stream left r e h =
     (leaves-stream kind stream r e call) (h .2)
     ∙ append-assoc stream (added kind stream call) (map byte (drop n piece) ++ h .0)
     ∙ ap (λ (l : List Event). stream ++ l)
-      (sym (append-assoc (added kind stream call) (map byte (drop n piece)) (h .0))
-      ∙ ap (λ (l : List Event). l ++ h .0) (taken-and-left kind stream piece buffer n taken)
-      ∙ sym (h .1))
+    (sym (append-assoc (added kind stream call) (map byte (drop n piece)) (h .0))
+    ∙ ap (λ (l : List Event). l ++ h .0) (taken-and-left kind stream piece buffer n taken)
+    ∙ sym (h .1))
 
 expected-taken : (kind : Kind) (stream : List Event) (piece buffer : List ℕ) → 260 ≤ length buffer
     → expected kind stream (feeding piece buffer) .taken ≡ length (upTo kind stream piece)

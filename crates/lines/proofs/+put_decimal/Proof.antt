@@ -30,8 +30,7 @@ last-digit room after place n last h fits e =
     let more = decimal-more n h in
     let longer = length-append (decimal (n / 10)) (digit (n % 10) ∷ []) in
     let size : length (decimal n) ≡ length (decimal (n / 10)) + 1 = ap length more ∙ longer in
-    let kept : length (overlay room place (decimal (n / 10))) ≡ length room = length-overlay room place (decimal (n / 10)) (omega arith) in
-    (
+    let kept : length (overlay room place (decimal (n / 10))) ≡ length room = length-overlay room place (decimal (n / 10)) (omega arith) in (
       omega (arith, e .0),
       rw (e .1, set-overlay (overlay room place (decimal (n / 10))) last (48 + n % 10) (omega (arith, e .0)))
           (overlay-then room place (decimal (n / 10)) (digit (n % 10) ∷ []) last (omega arith) (e .0) ∙ ap (overlay room place) (sym more)),
@@ -68,8 +67,11 @@ put-decimal-requires t c κs =
 slice-write-out-2 : (t : ℕ) → lts.Need-slice-write-out-2 (below t, put-decimal.Post) (here t) put-decimal.Post
 slice-write-out-2 t c =
     let s = c .before .before .before .before .before .before in
-    omega (arith, last-digit (s .args .out .now) _ (s .args .place) (s .args .n) (c .before .before .put-decimal .result)
-        (c .before .before .before .before .if1 .left) (s .pre .1) (c .before .before .put-decimal .ensures) .0)
+    omega (
+      arith,
+      last-digit (s .args .out .now) _ (s .args .place) (s .args .n) (c .before .before .put-decimal .result)
+          (c .before .before .before .before .if1 .left) (s .pre .1) (c .before .before .put-decimal .ensures) .0,
+    )
 
 returns-2 : (t : ℕ) → lts.Need-returns-2 (below t, put-decimal.Post) (here t) put-decimal.Post
 returns-2 t c =
