@@ -1,3 +1,4 @@
 -- The laws of the definitions in specs/.
 pub mod Big
 pub mod At
+pub mod Taken

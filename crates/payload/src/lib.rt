@@ -73,3 +73,36 @@ pub fn field(payload: &[u8], place: usize, width: Width) -> Field
     }
     Field::Value(value_at(payload, place, width), place + size)
 }
+
+// A reader: a payload and the place of its next field.
+pub struct Reader<'a> {
+    pub payload: &'a [u8],
+    pub place: usize,
+}
+
+// The reader of a payload from a place on.
+pub fn reader_at<'a>(payload: &'a [u8], place: usize) -> Reader<'a>
+    ensures { λ r. ⌜ (r .payload ≡ payload .entry) × (r .place ≡ place) ⌝ }
+{
+    Reader { payload, place }
+}
+
+// The reader's next field, of one, two or four bytes. The reader stays as it was: one at the place that the answer gives goes on, and
+// after 12 there is no other place than its own.
+pub fn take_u8<'a>(r: Reader<'a>) -> Field
+    ensures { λ f. ⌜ paperField f ≡ fieldAt (now (r .entry .payload)) (r .entry .place) 1 ⌝ }
+{
+    field(r.payload, r.place, Width::One)
+}
+
+pub fn take_u16<'a>(r: Reader<'a>) -> Field
+    ensures { λ f. ⌜ paperField f ≡ fieldAt (now (r .entry .payload)) (r .entry .place) 2 ⌝ }
+{
+    field(r.payload, r.place, Width::Two)
+}
+
+pub fn take_u32<'a>(r: Reader<'a>) -> Field
+    ensures { λ f. ⌜ paperField f ≡ fieldAt (now (r .entry .payload)) (r .entry .place) 4 ⌝ }
+{
+    field(r.payload, r.place, Width::Four)
+}
