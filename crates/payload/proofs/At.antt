@@ -8,10 +8,9 @@ use Rattle.refusal.specs.Refusals.{number, served, refused}
 use Rattle.payload.specs.declared.fields.Width.{Width}
 use Rattle.payload.specs.Field.{big, bytesIn, fieldAt}
 
--- the number of a field whose width is known
-pub value-of : (payload : List ℕ) (place : ℕ) {width known : Width} {n : ℕ} → width ≡ known → n ≡ big (take (bytesIn known) (drop place payload))
-    → n ≡ big (take (bytesIn width) (drop place payload))
-value-of payload place {n = n} e h = subst (λ (w : Width). n ≡ big (take (bytesIn w) (drop place payload))) (sym e) h
+-- what holds at a width that is known
+pub at-width : {A : Type 0} (f : ℕ → A) {width known : Width} {a : A} → width ≡ known → a ≡ f (bytesIn known) → a ≡ f (bytesIn width)
+at-width f {a = a} e h = subst (λ (w : Width). a ≡ f (bytesIn w)) (sym e) h
 
 module _ (payload : List ℕ) (place width : ℕ) where
   pub field-refused : length payload < place + width → fieldAt payload place width ≡ refused (number 12)

@@ -2,3 +2,4 @@
 pub mod Big
 pub mod At
 pub mod Taken
+pub mod Through

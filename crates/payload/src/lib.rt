@@ -106,3 +106,33 @@ pub fn take_u32<'a>(r: Reader<'a>) -> Field
 {
     field(r.payload, r.place, Width::Four)
 }
+
+// The number at a place of a payload, read through a reader: of one byte, of two and of four.
+fn u8_at(payload: &[u8], place: usize) -> Field
+    ensures { λ f. ⌜ paperField f ≡ fieldAt (now (payload .entry)) place 1 ⌝ }
+{
+    take_u8(reader_at(payload, place))
+}
+
+fn u16_at(payload: &[u8], place: usize) -> Field
+    ensures { λ f. ⌜ paperField f ≡ fieldAt (now (payload .entry)) place 2 ⌝ }
+{
+    take_u16(reader_at(payload, place))
+}
+
+fn u32_at(payload: &[u8], place: usize) -> Field
+    ensures { λ f. ⌜ paperField f ≡ fieldAt (now (payload .entry)) place 4 ⌝ }
+{
+    take_u32(reader_at(payload, place))
+}
+
+// The same at any width. No parameter is a reader, so that whoever calls this one needs none.
+pub fn number_at(payload: &[u8], place: usize, width: Width) -> Field
+    ensures { λ r. ⌜ paperField r ≡ fieldAt (now (payload .entry)) place (bytesIn width) ⌝ }
+{
+    match width {
+        Width::One => u8_at(payload, place),
+        Width::Two => u16_at(payload, place),
+        Width::Four => u32_at(payload, place),
+    }
+}
