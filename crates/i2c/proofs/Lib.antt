@@ -1,0 +1,6 @@
+mod CrcLaws
+mod WordLaws
+mod WordAnswers
+mod CommandAnswers
+mod RegisterLaws
+mod Xor
