@@ -4,3 +4,7 @@ mod WordAnswers
 mod CommandAnswers
 mod RegisterLaws
 mod Xor
+mod Linear
+mod OneToOne
+mod RoundTrip
+mod Families

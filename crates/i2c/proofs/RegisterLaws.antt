@@ -101,3 +101,26 @@ edit-refused low greatest f x h = rw (lt-leb f greatest h)
 pub edit-served : (low greatest f x y : ℕ) → f ≤ greatest → y ≡ withField low f x → served y ≡ edit low greatest f x
 unfolding edit
 edit-served low greatest f x y h e = rw (le-leb f greatest h, e)
+
+-- bit k of the number that bits make is the kth
+bit-of-bits : (n : ℕ) (f : ℕ → ℕ) → ((k : ℕ) → f k < 2) → (k : ℕ) → k < n → bit k (ofBits n f) ≡ f k
+unfolding ofBits
+bit-of-bits zero f small k h = absurd (not-suc-le-zero h)
+bit-of-bits (suc n) f small zero h = bit-zero (f 0 + 2 * ofBits n (λ j. f (suc j))) ∙ omega (arith, small 0)
+bit-of-bits (suc n) f small (suc k) h =
+    let rest : ℕ = ofBits n (λ j. f (suc j)) in
+    let half : (f 0 + 2 * rest) / 2 ≡ rest = omega (arith, small 0) in
+    bit-suc k (f 0 + 2 * rest) ∙ ap (bit k) half ∙ bit-of-bits n (λ j. f (suc j)) (λ j. small (suc j)) k (le-of-suc-le-suc h)
+
+one-bit : (j x : ℕ) → bit j x < 2
+unfolding bit
+one-bit j x = mod-lt (x / 2 ^ j) (omega arith)
+
+-- the edited register, bit by bit: the field's inside it, the register's outside, whatever the field held
+pub field-bits : (low field register k : ℕ) → k < 16 → bit k (withField low field register) ≡ cond (inField low k) (bit (k - low) field) (bit k register)
+unfolding withField
+field-bits low field register k h = bit-of-bits 16 (λ j. cond (inField low j) (bit (j - low) field) (bit j register)) (λ j. pick (inField low j) j) k h
+  where
+    pick : (t : Bool) (j : ℕ) → cond t (bit (j - low) field) (bit j register) < 2
+    pick true j = one-bit (j - low) field
+    pick false j = one-bit j register
