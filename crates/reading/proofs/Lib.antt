@@ -1,0 +1,3 @@
+mod SignedLaws
+mod Rounding
+mod Scale
