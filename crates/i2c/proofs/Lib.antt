@@ -1,10 +1,10 @@
-mod CrcLaws
-mod WordLaws
-mod WordAnswers
-mod CommandAnswers
-mod RegisterLaws
-mod Xor
-mod Linear
-mod OneToOne
-mod RoundTrip
-mod Families
+pub mod CrcLaws
+pub mod WordLaws
+pub mod WordAnswers
+pub mod CommandAnswers
+pub mod RegisterLaws
+pub mod Xor
+pub mod Linear
+pub mod OneToOne
+pub mod RoundTrip
+pub mod Families

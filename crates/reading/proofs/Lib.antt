@@ -1,3 +1,6 @@
-mod SignedLaws
-mod Rounding
-mod Scale
+pub mod SignedLaws
+pub mod Rounding
+pub mod Scale
+pub mod Exact
+pub mod Only
+pub mod OneToOne

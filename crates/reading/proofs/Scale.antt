@@ -1,12 +1,12 @@
 -- The test of a scale, as the code makes it, and what a good one is. Assumes nothing.
 use mathlib.Core.Path.{_≡_, refl, sym, subst}
-use mathlib.Core.Bool.{true, false}
+use mathlib.Core.Bool.{Bool, true, false, _&&_}
 use Prim.Native.Nat.{ℕ, _^_, _≤_, _<_}
 use native.Mathlib.Omega.{arith}
 use lib.Dec.{T, leb, ltb}
 use lib.IntN.{ℤ, pos, negsuc, natAbs}
 use lib.Signed.{ltZ, nonNeg}
-use borrow.Author.Tests.{ltb-true, ltb-false, le-leb, lt-leb}
+use borrow.Author.Tests.{ltb-true, ltb-false, leb-true, le-leb, lt-leb}
 use Rattle.reading.specs.Reading.{goodScale}
 
 pub scale-low : (z : ℤ) → ltZ z (pos 1) ≡ true → goodScale z ≡ false
@@ -37,3 +37,14 @@ scale-good (negsuc n) e f = absurd (subst T e tt)
 pub scale-size : (z : ℤ) → ltZ z (pos 1) ≡ false → ltZ (pos 32767) z ≡ false → natAbs z < 2 ^ 15
 scale-size (pos n) e f = omega (arith, ltb-false 32767 n f)
 scale-size (negsuc n) e f = absurd (subst T e tt)
+
+-- a good scale's size
+pub good-size : (z : ℤ) → goodScale z ≡ true → (1 ≤ natAbs z) × (natAbs z < 2 ^ 15)
+unfolding goodScale
+good-size (pos n) e = both (leb 1 n) refl (leb n 32767) refl e
+  where
+    both : (s : Bool) → leb 1 n ≡ s → (t : Bool) → leb n 32767 ≡ t → s && t ≡ true → (1 ≤ n) × (n < 2 ^ 15)
+    both true p true q e = (leb-true 1 n p, omega (arith, leb-true n 32767 q))
+    both true p false q e = absurd (subst T (sym e) tt)
+    both false p t q e = absurd (subst T (sym e) tt)
+good-size (negsuc n) e = absurd (subst T (sym e) tt)
