@@ -12,7 +12,7 @@ use borrow.Author.Tests.{eqb-true, ne-eqb}
 use Rattle.refusal.specs.Refusals.{number, _carrying_, served}
 use Rattle.i2c.specs.Answer.{Outcome, refuse}
 use Rattle.i2c.specs.Crc.{bitStep, bitSteps, byteStep, crcOf}
-use Rattle.i2c.specs.Word.{startOf, wordsOf, Check, allGood, wrongAt, later, firstWrong, noWords, readChecked, readWords}
+use Rattle.i2c.specs.Word.{startOf, wordsOf, Check, allGood, wrongAt, checkWord, later, orElse, firstWrong, noWords, readChecked, readWords}
 use Rattle.i2c.specs.declared.word.Family.{Family}
 use Rattle.i2c.specs.declared.word.Family.the-variants.{Liquid, Sfc6}
 use Rattle.i2c.proofs.Xor.{xor-cancel}
@@ -50,13 +50,13 @@ whole s bs lent n last = go (noWords bs) refl (firstWrong s bs) refl
 -- the first word, good with one start value, is wrong with the other
 first-wrong : (f : Family) (bs : List ℕ) → ((i : ℕ) → getD bs i 0 < 256) → noWords bs ≡ false → firstWrong (startOf f) bs ≡ allGood
     → firstWrong (startOf (other f)) bs ≡ wrongAt 0
-unfolding firstWrong noWords
+unfolding firstWrong checkWord noWords
 first-wrong f [] b p q = cc
 first-wrong f (h ∷ []) b p q = cc
 first-wrong f (h ∷ l ∷ []) b p q = cc
 first-wrong f (h ∷ l ∷ c ∷ rest) b p q = go (eqb (crcOf (startOf f) (h ∷ l ∷ [])) c) refl q
   where
-    go : (t : Bool) → eqb (crcOf (startOf f) (h ∷ l ∷ [])) c ≡ t → cond t (later (firstWrong (startOf f) rest)) (wrongAt 0) ≡ allGood
+    go : (t : Bool) → eqb (crcOf (startOf f) (h ∷ l ∷ [])) c ≡ t → orElse (cond t allGood (wrongAt 0)) (later (firstWrong (startOf f) rest)) ≡ allGood
         → firstWrong (startOf (other f)) (h ∷ l ∷ c ∷ rest) ≡ wrongAt 0
     go true e k =
         let g : crcOf (startOf f) (h ∷ l ∷ []) ≡ c = eqb-true (crcOf (startOf f) (h ∷ l ∷ [])) c e in

@@ -14,7 +14,7 @@ use borrow.Author.Tests.{eq-eqb, ne-eqb, eqb-true}
 use Rattle.refusal.specs.Refusals.{Numbered, number, served, refused}
 use Rattle.i2c.specs.Answer.{Outcome, refuse, overlay, store}
 use Rattle.i2c.specs.Crc.{crcOf}
-use Rattle.i2c.specs.Word.{wordBytes, bytesOf, wordsOf, Check, allGood, wrongAt, later, firstWrong, noWords, readChecked, readWords, writeWords}
+use Rattle.i2c.specs.Word.{wordBytes, bytesOf, wordsOf, Check, allGood, wrongAt, checkWord, later, orElse, firstWrong, noWords, readChecked, readWords, writeWords}
 use Rattle.i2c.proofs.WordLaws.{bytes-count}
 
 -- the words of their bytes
@@ -25,7 +25,7 @@ words-back s (w ∷ ws) = ap₂ {C = List ℕ} (λ (v : ℕ) (vs : List ℕ). v 
 
 -- their bytes are good
 good-back : (s : ℕ) (ws : List ℕ) → firstWrong s (bytesOf s ws) ≡ allGood
-unfolding firstWrong bytesOf wordBytes
+unfolding firstWrong checkWord bytesOf wordBytes
 good-back s [] = refl
 good-back s (w ∷ ws) = let e : crcOf s (w / 256 ∷ w % 256 ∷ []) ≡ crcOf s (w / 256 ∷ w % 256 ∷ []) = refl in rw (eq-eqb _ _ e, good-back s ws)
 
@@ -66,7 +66,7 @@ written-read s (w ∷ ws) lent room n last e =
 
 -- good bytes are the bytes of their words
 pub bytes-back : (s : ℕ) (bs : List ℕ) → ((i : ℕ) → getD bs i 0 < 256) → length bs % 3 ≡ 0 → firstWrong s bs ≡ allGood → bytesOf s (wordsOf bs) ≡ bs
-unfolding wordsOf firstWrong bytesOf wordBytes
+unfolding wordsOf firstWrong checkWord bytesOf wordBytes
 bytes-back s [] b m g = refl
 bytes-back s (h ∷ []) b m g = absurd (omega arith)
 bytes-back s (h ∷ l ∷ []) b m g = absurd (omega arith)
@@ -79,7 +79,7 @@ bytes-back s (h ∷ l ∷ c ∷ bs) b m g = go (eqb (crcOf s (h ∷ l ∷ [])) c
         absurd (omega arith)
 
     go : (t : Bool) → eqb (crcOf s (h ∷ l ∷ [])) c ≡ t → (firstWrong s bs ≡ allGood → bytesOf s (wordsOf bs) ≡ bs)
-        → cond t (later (firstWrong s bs)) (wrongAt 0) ≡ allGood → bytesOf s (wordsOf (h ∷ l ∷ c ∷ bs)) ≡ h ∷ l ∷ c ∷ bs
+        → orElse (cond t allGood (wrongAt 0)) (later (firstWrong s bs)) ≡ allGood → bytesOf s (wordsOf (h ∷ l ∷ c ∷ bs)) ≡ h ∷ l ∷ c ∷ bs
     go true e ih k = rw (digits-div h (b 1), digits-mod h (b 1), eqb-true (crcOf s (h ∷ l ∷ [])) c e, ih (all (firstWrong s bs) k))
     go false e ih k =
         let z : _≡_ {A = ℕ} 0 1 = cc in

@@ -12,7 +12,7 @@ use lib.Seq.{drop-cons, sets, sets-eq}
 use borrow.Author.Tests.{eq-eqb, ne-eqb}
 use Rattle.i2c.specs.Answer.{overlay}
 use Rattle.i2c.specs.Crc.{crcOf}
-use Rattle.i2c.specs.Word.{wordBytes, bytesOf, wordsOf, Check, allGood, wrongAt, later, firstWrong}
+use Rattle.i2c.specs.Word.{wordBytes, bytesOf, wordsOf, Check, allGood, wrongAt, checkWord, later, orElse, firstWrong}
 
 -- a word at a place, and the rest
 pub three : (bs : List ℕ) (a : ℕ) → a + 2 < length bs → drop a bs ≡ getD bs a 0 ∷ getD bs (a + 1) 0 ∷ getD bs (a + 2) 0 ∷ drop (a + 3) bs
@@ -56,16 +56,16 @@ after-later k (wrongAt j) = ap wrongAt (omega arith)
 -- the check of the words from here on: one more, a wrong one, the end
 module _ (s : ℕ) (bs : List ℕ) (a k r : ℕ) {x : Check} (e : r ≡ crcOf s (getD bs a 0 ∷ getD bs (a + 1) 0 ∷ []))
     (inv : after k (firstWrong s (drop a bs)) ≡ x) (h : a + 2 < length bs) where
-  here : after k
-      (cond (eqb (crcOf s (getD bs a 0 ∷ getD bs (a + 1) 0 ∷ [])) (getD bs (a + 2) 0)) (later (firstWrong s (drop (a + 3) bs))) (wrongAt 0))
-      ≡ x
+  here : after k (orElse (checkWord s (getD bs a 0) (getD bs (a + 1) 0) (getD bs (a + 2) 0)) (later (firstWrong s (drop (a + 3) bs)))) ≡ x
   unfolding firstWrong
   here = rw (three bs a h) at inv
 
   pub check-more : r ≡ getD bs (a + 2) 0 → after (k + 1) (firstWrong s (drop (a + 3) bs)) ≡ x
+  unfolding checkWord
   check-more t = sym (after-later k (firstWrong s (drop (a + 3) bs))) ∙ rw (eq-eqb _ _ (sym e ∙ t)) at here
 
   pub check-wrong : (r ≡ getD bs (a + 2) 0 → ⊥) → wrongAt k ≡ x
+  unfolding checkWord
   check-wrong t = ap wrongAt (omega arith) ∙ rw (ne-eqb _ _ (λ p. t (e ∙ p))) at here
 
 pub check-end : (s : ℕ) (bs : List ℕ) (a k : ℕ) {x : Check} → after k (firstWrong s (drop a bs)) ≡ x → length bs ≤ a + 2 → allGood ≡ x

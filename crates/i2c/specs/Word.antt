@@ -38,17 +38,26 @@ pub data Check : Type 0 where
   allGood : Check
   wrongAt : ℕ → Check
 
+-- one word: its CRC is right, or the wrong one is its own
+unfoldable pub checkWord : ℕ → ℕ → ℕ → ℕ → Check
+checkWord start h l c = cond (eqb (crcOf start (h ∷ l ∷ [])) c) allGood (wrongAt 0)
+
 -- the same, one word further on
 abbrev pub later : Check → Check
 later allGood = allGood
 later (wrongAt k) = wrongAt (suc k)
+
+-- a finding, or where there is none another
+abbrev pub orElse : Check → Check → Check
+orElse allGood other = other
+orElse (wrongAt k) other = wrongAt k
 
 -- 01, Refusal numbers: the first word whose CRC is wrong, its index from 0
 unfoldable pub firstWrong : ℕ → List ℕ → Check
 firstWrong start [] = allGood
 firstWrong start (h ∷ []) = allGood
 firstWrong start (h ∷ l ∷ []) = allGood
-firstWrong start (h ∷ l ∷ c ∷ rest) = cond (eqb (crcOf start (h ∷ l ∷ [])) c) (later (firstWrong start rest)) (wrongAt 0)
+firstWrong start (h ∷ l ∷ c ∷ rest) = orElse (checkWord start h l c) (later (firstWrong start rest))
 
 -- the check's answer in the code, case by case
 abbrev pub paperChecked : Checked → Check

@@ -70,10 +70,12 @@ fn write_taking(code: u16, concentration: u32, out: &mut [u8]) -> Stored
     if out.len() < 5 {
         return Stored::Refused(Refusal::NoRoom);
     }
+    let code_high = high(code);
+    let code_low = low(code);
     let h = high(concentration as u16);
     let l = low(concentration as u16);
-    out[0] = high(code);
-    out[1] = low(code);
+    out[0] = code_high;
+    out[1] = code_low;
     out[2] = h;
     out[3] = l;
     out[4] = pair_crc(SFC6_START, h, l);

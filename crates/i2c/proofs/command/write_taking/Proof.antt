@@ -25,7 +25,7 @@ returns-3 : tie.Need-returns-3
 returns-3 c =
     let l = c .before .before .before in
     let r = l .before .before in
-    taking-all _ _ _ (r .before .if1 .left) _ _ _ _ _ (c .before .before .high2 .ensures) (c .before .low2 .ensures) (l .before .high .ensures) (l .low .ensures) (c .pair-crc .ensures) (r .if2 .left)
+    taking-all _ _ _ (r .before .if1 .left) _ _ _ _ _ (l .before .high .ensures) (l .low .ensures) (c .before .before .high2 .ensures) (c .before .low2 .ensures) (c .pair-crc .ensures) (r .if2 .left)
 
 pub write-taking-spec : {M : Type 1} → statement M
 write-taking-spec =
@@ -33,13 +33,13 @@ write-taking-spec =
     (tie.spec
     returns
     returns-2
-    (λ c. search needs)
-    (λ c κs. search needs)
-    (λ c. search needs)
     (λ c κs. search needs)
     (λ c κs. search needs)
     (λ c. search needs)
     (λ c κs. search needs)
+    (λ c. search needs)
+    (λ c κs. search needs)
+    (λ c. search needs)
     slice-write-out-2
     slice-write-out-3
     slice-write-out-4
