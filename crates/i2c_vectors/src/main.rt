@@ -1,0 +1,460 @@
+// The vectors of the I2C papers: one line for each. What each line must say is in the file stdout, which is written from the
+// papers and not by this program.
+use digits::bits;
+use digits::hex;
+use digits::signed;
+use i2c::Stored;
+use i2c::command::Liquid;
+use i2c::command::Sfc6;
+use i2c::register::Edited;
+use i2c::word::LIQUID_START;
+use i2c::word::SFC6_START;
+use libc::STDOUT_FILENO;
+use reading::Quantity;
+use reading::Thousandths;
+use refusal::Refusal;
+ghost use Prim.Native.Nat.{_≤_};
+
+mod digits;
+
+fn main() {
+    makers_crcs();
+    derived_crcs();
+    steps();
+    words();
+    number_formats();
+    commands();
+    registers();
+    readings();
+    rounding();
+}
+
+// The CRC of bytes, from 00 and from FF: those that the papers print.
+fn makers_crcs() {
+    // 000, the checksum's own example.
+    crc(b"123456789");
+    // 000, the user register's default; 01, example 9.
+    crc(b"\x0E\x00");
+    // 001, the checksum's own example; 01, example 10.
+    crc(b"\xBE\xEF");
+    // 001, reading the name of gas 1.
+    crc(b"\x36\x08");
+    // 000, an answer before a measurement is ready.
+    crc(b"\xFF\xFF");
+    // 01, examples 10 and 11.
+    crc(b"\x00\x00");
+    // 000, changing the address.
+    crc(b"\x02\x07");
+    crc(b"\x01\x0F");
+}
+
+fn derived_crcs() {
+    crc(b"\x00\x01");
+    crc(b"\x80\x00");
+    crc(b"\x7F\xFF");
+    crc(b"\x90\x00");
+    crc(b"\x58\x00");
+    crc(b"\x01\x48");
+    crc(b"\x01\x45");
+    crc(b"\x0E\x10");
+    crc(b"\x0E\x40");
+    crc(b"\x08\x43");
+    crc(b"\x08\x44");
+    crc(b"\x08\x45");
+    crc(b"\x08\x34");
+    crc(b"\x08\x55");
+    crc(b"\xF7\x34");
+    crc(b"\xFF\xF9");
+    crc(b"");
+    crc(b"\x00");
+    crc(b"\xFF");
+}
+
+// What eight bits make of a value: the first and the last 16 values, the values of one bit, and the fixed point other than 00.
+fn steps() {
+    row(0x00);
+    row(0xF0);
+    step(0x80);
+    step(0x40);
+    step(0x20);
+    step(0x10);
+    step(0xEF);
+}
+
+// Start value, bytes: the words.
+fn words() {
+    read(LIQUID_START, b"\x0E\x00\x6D");
+    read(SFC6_START, b"\xBE\xEF\x92");
+    read(SFC6_START, b"\x36\x08\xD0");
+    read(LIQUID_START, b"\x00\x00\x00");
+    // A word of one family is no good word of the other, nor is a bus that is stuck high.
+    read(SFC6_START, b"\x00\x00\x00");
+    read(SFC6_START, b"\x0E\x00\x6D");
+    read(LIQUID_START, b"\xFF\xFF\xFF");
+    read(SFC6_START, b"\xFF\xFF\xFF");
+    // Nothing, a word without its CRC, and a byte too many.
+    read(LIQUID_START, b"");
+    read(LIQUID_START, b"\x0E\x00");
+    read(LIQUID_START, b"\x0E\x00\x6D\x0E");
+    // Three words; the second wrong; the second and the third wrong.
+    read(SFC6_START, b"\x58\x00\x51\x00\x01\xB0\x00\x00\x81");
+    read(SFC6_START, b"\x58\x00\x51\x00\x01\x31\x00\x00\x81");
+    read(SFC6_START, b"\x58\x00\x51\x00\x01\x31\x00\x00\x00");
+    // Room for one: two good words, and a wrong one.
+    read_one(SFC6_START, b"\x58\x00\x51\x00\x01\xB0");
+    read_one(SFC6_START, b"\x58\x00\x51\x00\x01\x31");
+    write(LIQUID_START, 0x0E00);
+    write(SFC6_START, 0xBEEF);
+    write(SFC6_START, 0x3608);
+    write(LIQUID_START, 0x0000);
+    write_none(LIQUID_START);
+}
+
+// Numbers that the papers print in both forms.
+fn number_formats() {
+    read(LIQUID_START, b"\xF7\x34\xB7");
+    read(SFC6_START, b"\x01\x48\xF1");
+    read(SFC6_START, b"\x01\x45\xBD");
+    read(LIQUID_START, b"\x08\x43\x59");
+    read(LIQUID_START, b"\x08\x44\xCE");
+    read(LIQUID_START, b"\x08\x45\xFF");
+    read(LIQUID_START, b"\x08\x34\x36");
+    read(LIQUID_START, b"\x08\x55\xBC");
+}
+
+fn commands() {
+    sfc6(b"E102", Sfc6::PointToTemperature);
+    sfc6(b"E000", Sfc6::PointBack);
+    sfc6(b"3FEF", Sfc6::ShutValve);
+    sfc6(b"3F6E", Sfc6::NormalControl);
+    sfc6(b"E17D 0", Sfc6::SetConcentration(0));
+    sfc6(b"E17D 1", Sfc6::SetConcentration(1));
+    sfc6(b"E17D 500", Sfc6::SetConcentration(500));
+    sfc6(b"E17D 999", Sfc6::SetConcentration(999));
+    sfc6(b"E17D 1000", Sfc6::SetConcentration(1000));
+    sfc6(b"3650 250", Sfc6::StartGas0In1(250));
+    sfc6(b"365B 1000", Sfc6::StartGas7In8(1000));
+    sfc6(b"E17D 1001", Sfc6::SetConcentration(1001));
+    sfc6(b"3650 1001", Sfc6::StartGas0In1(1001));
+    sfc6(b"365B 1001", Sfc6::StartGas7In8(1001));
+    sfc6(b"E17D C0FF", Sfc6::SetConcentration(0xC0FF));
+    sfc6(b"3650 C0FF", Sfc6::StartGas0In1(0xC0FF));
+    sfc6(b"365B C0FF", Sfc6::StartGas7In8(0xC0FF));
+    sfc6(b"E17D 65537", Sfc6::SetConcentration(65537));
+    liquid(b"E2 0E10", Liquid::WriteUser(0x0E10));
+    liquid(b"E3", Liquid::ReadUser);
+    liquid(b"E4 0E00", Liquid::WriteAdvanced(0x0E00));
+    liquid(b"E5", Liquid::ReadAdvanced);
+    liquid(b"F1", Liquid::Flow);
+    liquid(b"F3", Liquid::Temperature);
+    liquid(b"F5", Liquid::Supply);
+    liquid(b"FE", Liquid::Reset);
+}
+
+fn registers() {
+    user(0x0E00, 0);
+    user(0x0E00, 1);
+    user(0x0E00, 2);
+    user(0x0E00, 3);
+    user(0x0E00, 4);
+    user(0x0E70, 4);
+    user(0xFFFF, 0);
+    user(0xFFFF, 4);
+    user(0x0E00, 5);
+    user(0x0E00, 6);
+    user(0x0E00, 7);
+    user(0x0E00, 8);
+    user(0x0E00, 255);
+    advanced(0xFFFF, 0);
+    advanced(0xFFFF, 1);
+    advanced(0xFFFF, 2);
+    advanced(0xFFFF, 3);
+    advanced(0xFFFF, 4);
+    advanced(0xFFFF, 5);
+    advanced(0xFFFF, 6);
+    advanced(0xFFFF, 7);
+    advanced(0x0000, 7);
+    advanced(0x0000, 8);
+}
+
+// Raw, offset, scale: thousandths and the bits of the float.
+fn readings() {
+    // 001, zero flow and full scale.
+    reading(-28672, -28672, 1024);
+    reading(22528, -28672, 1024);
+    reading(22528, -28672, 2560);
+    reading(22528, -28672, 5120);
+    reading(22528, -28672, 10240);
+    reading(22528, -28672, 25600);
+    reading(32767, -28672, 1024);
+    reading(-32768, -28672, 1024);
+    // SFC6 temperature.
+    reading(5000, 0, 200);
+    reading(4701, 0, 200);
+    reading(-1, 0, 200);
+    // 000, temperature and supply.
+    reading(235, 0, 10);
+    reading(3300, 0, 1000);
+    // The largest and the smallest.
+    reading(32767, -32768, 1);
+    reading(-32768, 32767, 1);
+}
+
+fn rounding() {
+    // 01, example 12.
+    reading(1, 0, 2000);
+    reading(1, 0, 2001);
+    reading(-1, 0, 2000);
+    // Halves.
+    reading(1, 0, 16);
+    reading(-1, 0, 16);
+    reading(3, 0, 16);
+    reading(-3, 0, 16);
+    reading(16, 0, 32000);
+    reading(16, 0, 32001);
+    reading(-16, 0, 32000);
+    reading(1, 0, 32767);
+    reading(1, 0, 3);
+    reading(-1, 0, 3);
+    // Where a product with 1 / scale, or thousandths by way of the float, would be wrong.
+    reading(5, 0, 3);
+    reading(12289, 0, 3);
+    // A scale out of range.
+    reading(1, 0, 0);
+    reading(1, 0, 32768);
+    reading(1, 0, 65535);
+    reading(1, 0, -1);
+}
+
+fn crc(bytes: &[u8]) {
+    text(b"crc");
+    each(bytes, bytes.len());
+    text(b":");
+    byte(i2c::crc::crc(LIQUID_START, bytes));
+    byte(i2c::crc::crc(SFC6_START, bytes));
+    text(b"\n");
+}
+
+fn row(first: u8)
+    requires { ⌜ first ≤ 240 ⌝ }
+{
+    text(b"steps from");
+    byte(first);
+    text(b":");
+    let mut k: u8 = 0;
+    while k < 16 {
+        byte(step_of(first + k));
+        k += 1;
+    }
+    text(b"\n");
+}
+
+fn step(value: u8) {
+    text(b"step");
+    byte(value);
+    text(b":");
+    byte(step_of(value));
+    text(b"\n");
+}
+
+fn step_of(value: u8) -> u8 {
+    let one = [value];
+    i2c::crc::crc(LIQUID_START, &one)
+}
+
+fn read(start: u8, bytes: &[u8]) {
+    let mut words = [0u16; 4];
+    asked(start, bytes);
+    shown_words(i2c::word::read_words(start, bytes, &mut words), &words);
+}
+
+fn read_one(start: u8, bytes: &[u8]) {
+    let mut words = [0u16; 1];
+    asked(start, bytes);
+    shown_words(i2c::word::read_words(start, bytes, &mut words), &words);
+}
+
+fn asked(start: u8, bytes: &[u8]) {
+    text(b"read");
+    byte(start);
+    text(b":");
+    each(bytes, bytes.len());
+    text(b":");
+}
+
+fn shown_words(answer: Stored, words: &[u16]) {
+    match answer {
+        Stored::Count(n) => numbers(words, n),
+        Stored::Refused(r) => refused(r),
+    }
+    text(b"\n");
+}
+
+fn write(start: u8, word: u16) {
+    let one = [word];
+    let mut out = [0u8; 8];
+    text(b"write");
+    byte(start);
+    text(b" ");
+    four_digits(word);
+    text(b":");
+    shown_bytes(i2c::word::write_words(start, &one, &mut out), &out);
+}
+
+fn write_none(start: u8) {
+    let none: [u16; 0] = [];
+    let mut out = [0u8; 8];
+    text(b"write");
+    byte(start);
+    text(b":");
+    shown_bytes(i2c::word::write_words(start, &none, &mut out), &out);
+}
+
+fn sfc6(ask: &[u8], command: Sfc6) {
+    let mut out = [0u8; 8];
+    text(b"SFC6 ");
+    text(ask);
+    text(b":");
+    shown_bytes(i2c::command::write_sfc6(command, &mut out), &out);
+}
+
+fn liquid(ask: &[u8], command: Liquid) {
+    let mut out = [0u8; 8];
+    text(b"liquid ");
+    text(ask);
+    text(b":");
+    shown_bytes(i2c::command::write_liquid(command, &mut out), &out);
+}
+
+fn shown_bytes(answer: Stored, out: &[u8]) {
+    match answer {
+        Stored::Count(n) => each(out, n),
+        Stored::Refused(r) => refused(r),
+    }
+    text(b"\n");
+}
+
+fn user(register: u16, field: u32) {
+    text(b"user ");
+    edit(register, field, i2c::register::edit_user(register, field));
+}
+
+fn advanced(register: u16, field: u32) {
+    text(b"advanced ");
+    edit(
+        register,
+        field,
+        i2c::register::edit_advanced(register, field),
+    );
+}
+
+fn edit(register: u16, field: u32, answer: Edited) {
+    four_digits(register);
+    text(b" to ");
+    decimal(field as u64);
+    text(b":");
+    match answer {
+        Edited::Value(v) => {
+            text(b" ");
+            four_digits(v);
+        }
+        Edited::Refused(r) => refused(r),
+    }
+    text(b"\n");
+}
+
+fn reading(raw: i16, offset: i16, scale: i32) {
+    text(b"reading ");
+    whole(raw as i32);
+    text(b" ");
+    whole(offset as i32);
+    text(b" ");
+    whole(scale);
+    text(b":");
+    match reading::scaled(raw, offset, scale) {
+        Thousandths::Value(q) => {
+            text(b" ");
+            whole(q);
+        }
+        Thousandths::Refused(r) => refused(r),
+    }
+    match reading::scaled_float(raw, offset, scale) {
+        Quantity::Value(x) => eight_digits(bits(x)),
+        Quantity::Refused(r) => refused(r),
+    }
+    text(b"\n");
+}
+
+// The first n bytes of a slice, or all.
+fn each(bytes: &[u8], n: usize) {
+    let mut i = 0;
+    while i < bytes.len() {
+        if i < n {
+            byte(bytes[i]);
+        }
+        i += 1;
+    }
+}
+
+// The first n numbers of a slice, or all.
+fn numbers(words: &[u16], n: usize) {
+    let mut i = 0;
+    while i < words.len() {
+        if i < n {
+            number(words[i]);
+        }
+        i += 1;
+    }
+}
+
+fn number(w: u16) {
+    text(b" ");
+    decimal(w as u64);
+}
+
+fn refused(r: Refusal) {
+    text(b" refused ");
+    decimal(refusal::number(r) as u64);
+    if let Refusal::WrongCrc(k) = r {
+        text(b" at ");
+        decimal(k as u64);
+    }
+}
+
+fn byte(b: u8) {
+    text(b" ");
+    two_digits(b);
+}
+
+fn two_digits(b: u8) {
+    let h = hex(b);
+    let pair = [h.0, h.1];
+    text(&pair);
+}
+
+fn four_digits(w: u16) {
+    two_digits(i2c::word::high(w));
+    two_digits(i2c::word::low(w));
+}
+
+fn eight_digits(x: u32) {
+    text(b" ");
+    four_digits((x / 65536) as u16);
+    four_digits((x % 65536) as u16);
+}
+
+fn whole(z: i32) {
+    let s = signed(z);
+    if s.negative {
+        text(b"-");
+    }
+    decimal(s.size);
+}
+
+fn decimal(n: u64) {
+    io::print_decimal(STDOUT_FILENO, n);
+}
+
+fn text(s: &[u8]) {
+    io::write_all(STDOUT_FILENO, s);
+}
