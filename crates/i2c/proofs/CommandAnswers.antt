@@ -1,11 +1,10 @@
--- The answers of the command writers: one law for each `return`.
+-- The answers of the command writers: one law for each `return`. Assumes nothing.
 use mathlib.Core.Path.{_≡_, refl, sym, ap, _∙_}
 use mathlib.Core.List.{List, [], _∷_, _++_}
 use Prim.Native.Nat.{ℕ, _/_, _%_, _≤_, _<_}
 use lib.ListN.{length, set}
 use lib.Seq.{sets}
 use borrow.Author.Tests.{le-leb, lt-leb}
-use native.Mathlib.Omega.{arith}
 use Rattle.refusal.specs.Refusals.{number, served}
 use Rattle.i2c.specs.Answer.{Outcome, store, refuse}
 use Rattle.i2c.specs.Crc.{crcOf}

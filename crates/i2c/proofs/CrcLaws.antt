@@ -1,4 +1,4 @@
--- The bit step without a test, and the CRC along a list, one byte further at a time: what the loops over slices need.
+-- The bit step without a test, and the CRC along a list, one byte further at a time: what the loops over slices need. Assumes nothing.
 use mathlib.Core.Path.{_≡_, refl, sym, ap, ap₂, _∙_}
 use mathlib.Core.Bool.{Bool, true, false, cond}
 use mathlib.Core.List.{List}

@@ -3,16 +3,16 @@
 use mathlib.Core.Path.{_≡_, refl, sym, ap, _∙_}
 use mathlib.Core.Bool.{Bool, true, false, cond}
 use mathlib.Core.List.{List, [], _∷_}
-use Prim.Native.Nat.{ℕ, _+_, _%_, _<_}
+use Prim.Native.Nat.{ℕ, _<_}
 use native.Mathlib.Omega.{arith}
 use lib.Bits.{bitXor, xor-comm}
 use lib.Dec.{eqb}
-use lib.ListN.{length, getD}
+use lib.ListN.{getD}
 use borrow.Author.Tests.{eqb-true, ne-eqb}
 use Rattle.refusal.specs.Refusals.{number, _carrying_, served}
 use Rattle.i2c.specs.Answer.{Outcome, refuse}
 use Rattle.i2c.specs.Crc.{bitStep, bitSteps, byteStep, crcOf}
-use Rattle.i2c.specs.Word.{startOf, wordsOf, Check, allGood, wrongAt, checkWord, later, orElse, firstWrong, noWords, readChecked, readWords}
+use Rattle.i2c.specs.Word.{startOf, Check, allGood, wrongAt, checkWord, later, orElse, firstWrong, noWords, readChecked, readWords}
 use Rattle.i2c.specs.declared.word.Family.{Family}
 use Rattle.i2c.specs.declared.word.Family.the-variants.{Liquid, Sfc6}
 use Rattle.i2c.proofs.Xor.{xor-cancel}

@@ -1,4 +1,4 @@
--- The CRC is linear over exclusive or: the bit step, the byte step and the CRC of two bytes.
+-- The CRC is linear over exclusive or: the bit step, the byte step and the CRC of two bytes. Assumes nothing.
 use mathlib.Core.Path.{_≡_, refl, sym, ap, ap₂, _∙_}
 use mathlib.Core.List.{[], _∷_}
 use Prim.Native.Nat.{ℕ, zero, suc, _*_, _/_, _%_, _<_}

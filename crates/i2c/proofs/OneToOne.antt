@@ -1,6 +1,4 @@
 -- The translations of specs/ are one-to-one: nothing that the code says is lost by them. Assumes nothing.
-use Prim.Native.Nat.{ℕ}
-use native.Mathlib.Omega.{arith}
 use mathlib.Core.Path.{_≡_, refl, sym, ap, _∙_}
 use mathlib.Core.Bool.{cond}
 use lib.Dec.{eqb}
@@ -14,7 +12,7 @@ use Rattle.i2c.specs.declared.Stored.the-variants as stored
 use Rattle.i2c.specs.declared.register.Edited.{Edited}
 use Rattle.i2c.specs.declared.register.Edited.the-variants as edited
 use Rattle.i2c.specs.declared.command.Sfc6.{Sfc6}
-use Rattle.i2c.specs.declared.command.Sfc6.the-variants.{PointToTemperature, PointBack, SetConcentration, StartGas0In1, StartGas7In8, ShutValve, NormalControl}
+use Rattle.i2c.specs.declared.command.Sfc6.the-variants.{PointToTemperature, PointBack, SetConcentration, StartMixture0, StartMixture1, ShutValve, NormalControl}
 
 pub stored-one-to-one : (a b : Stored) → paperStored a ≡ paperStored b → a ≡ b
 stored-one-to-one (stored.Count m) (stored.Count n) e = cc
@@ -34,15 +32,15 @@ edited-one-to-one (edited.Refused r) (edited.Refused s) e =
 
 back : Asked → Sfc6
 back (alone code) = cond (eqb code 0xE102) PointToTemperature (cond (eqb code 0xE000) PointBack (cond (eqb code 0x3FEF) ShutValve NormalControl))
-back (code taking n) = cond (eqb code 0xE17D) (SetConcentration n) (cond (eqb code 0x3650) (StartGas0In1 n) (StartGas7In8 n))
+back (code taking n) = cond (eqb code 0xE17D) (SetConcentration n) (cond (eqb code 0x3650) (StartMixture0 n) (StartMixture1 n))
 
 back-asked : (q : Sfc6) → back (asked q) ≡ q
 unfolding back
 back-asked PointToTemperature = refl
 back-asked PointBack = refl
 back-asked (SetConcentration n) = refl
-back-asked (StartGas0In1 n) = refl
-back-asked (StartGas7In8 n) = refl
+back-asked (StartMixture0 n) = refl
+back-asked (StartMixture1 n) = refl
 back-asked ShutValve = refl
 back-asked NormalControl = refl
 

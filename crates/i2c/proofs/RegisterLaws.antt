@@ -1,5 +1,5 @@
--- Bits of numbers, and what an edit of a field makes of each.
-use mathlib.Core.Path.{_≡_, refl, sym, ap, ap₂, _∙_}
+-- Bits of numbers, and what an edit of a field makes of each. Assumes nothing.
+use mathlib.Core.Path.{_≡_, refl, sym, ap, _∙_}
 use mathlib.Core.Bool.{Bool, true, false, cond, _&&_}
 use Prim.Native.Nat.{ℕ, zero, suc, _+_, _-_, _*_, _/_, _%_, _^_, _≤_, _<_}
 use native.Mathlib.Nat.{div-div-eq-div-mul, pow-suc, pow-succ', div-one, div-add-mod', mod-lt, le-of-suc-le-suc, not-suc-le-zero}
@@ -8,8 +8,8 @@ use lib.Arith.{digits-div}
 use lib.Pow.{pow-add, pow-pos}
 use lib.Bits.{block-half, block-odd}
 use lib.Dec.{leb, ltb}
-use borrow.Author.Tests.{leb-true, leb-false, ltb-true, ltb-false, le-leb, lt-leb, lt-ltb, le-ltb}
-use Rattle.refusal.specs.Refusals.{number, Answered, served, refused}
+use borrow.Author.Tests.{leb-true, leb-false, ltb-true, ltb-false, le-leb, lt-leb}
+use Rattle.refusal.specs.Refusals.{number, served, refused}
 use Rattle.i2c.specs.Register.{bit, ofBits, inField, withField, edit}
 
 bit-zero : (x : ℕ) → bit 0 x ≡ x % 2

@@ -1,13 +1,13 @@
--- The answers of the word reader and the word writer: one law for each `return`, in the order of the code's tests.
-use mathlib.Core.Path.{_≡_, refl, sym, ap, _∙_}
+-- The answers of the word reader and the word writer: one law for each `return`, in the order of the code's tests. Assumes nothing.
+use mathlib.Core.Path.{_≡_, refl, sym, _∙_}
 use mathlib.Core.List.{List, [], _∷_}
 use Prim.Native.Nat.{ℕ, _*_, _/_, _%_, _≤_, _<_}
 use native.Mathlib.Omega.{arith}
 use lib.ListN.{length}
 use borrow.Author.Tests.{eq-eqb, ne-eqb, le-leb, lt-leb}
-use Rattle.refusal.specs.Refusals.{number, _carrying_, served, refused}
-use Rattle.i2c.specs.Answer.{Outcome, overlay, store, refuse}
-use Rattle.i2c.specs.Word.{bytesOf, wordsOf, Check, allGood, wrongAt, firstWrong, paperChecked, noWords, readChecked, readWords, writeWords}
+use Rattle.refusal.specs.Refusals.{number, _carrying_, served}
+use Rattle.i2c.specs.Answer.{overlay, store, refuse}
+use Rattle.i2c.specs.Word.{bytesOf, wordsOf, firstWrong, paperChecked, noWords, readChecked, readWords, writeWords}
 use Rattle.i2c.specs.declared.word.Checked.{Checked}
 use Rattle.i2c.specs.declared.word.Checked.the-variants.{Good, WrongAt}
 use Rattle.i2c.proofs.WordLaws.{words-count, bytes-count}

@@ -1,6 +1,6 @@
--- Exclusive or, where the library stops: it is associative, and it passes through doubling, halving and single bits.
+-- Exclusive or, where the library stops: it is associative, and it passes through doubling, halving and single bits. Assumes nothing.
 use mathlib.Core.Path.{_≡_, refl, sym, ap, ap₂, _∙_}
-use Prim.Native.Nat.{ℕ, zero, suc, _+_, _*_, _/_, _%_, _^_, _≤_, _<_}
+use Prim.Native.Nat.{ℕ, zero, suc, _+_, _*_, _/_, _%_, _<_}
 use native.Mathlib.Nat.{mod-lt, add-zero, zero-mul}
 use native.Mathlib.Omega.{arith}
 use lib.Arith.{bin-ind, digits-div, digits-mod}

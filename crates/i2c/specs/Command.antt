@@ -8,7 +8,7 @@ use Rattle.i2c.specs.Answer.{Outcome, refuse, store}
 use Rattle.i2c.specs.Word.{startOf, wordBytes}
 use Rattle.i2c.specs.declared.word.Family.the-variants as family
 use Rattle.i2c.specs.declared.command.Sfc6.{Sfc6}
-use Rattle.i2c.specs.declared.command.Sfc6.the-variants.{PointToTemperature, PointBack, SetConcentration, StartGas0In1, StartGas7In8, ShutValve, NormalControl}
+use Rattle.i2c.specs.declared.command.Sfc6.the-variants.{PointToTemperature, PointBack, SetConcentration, StartMixture0, StartMixture1, ShutValve, NormalControl}
 use Rattle.i2c.specs.declared.command.Liquid.{Liquid}
 use Rattle.i2c.specs.declared.command.Liquid.the-variants.{WriteUser, ReadUser, WriteAdvanced, ReadAdvanced, Flow, Temperature, Supply, Reset}
 
@@ -23,8 +23,8 @@ abbrev pub asked : Sfc6 → Asked
 asked PointToTemperature = alone 0xE102
 asked PointBack = alone 0xE000
 asked (SetConcentration concentration) = 0xE17D taking concentration
-asked (StartGas0In1 concentration) = 0x3650 taking concentration
-asked (StartGas7In8 concentration) = 0x365B taking concentration
+asked (StartMixture0 concentration) = 0x3650 taking concentration
+asked (StartMixture1 concentration) = 0x365B taking concentration
 asked ShutValve = alone 0x3FEF
 asked NormalControl = alone 0x3F6E
 

@@ -18,10 +18,10 @@ pub enum Sfc6 {
     PointBack,
     // E17D: the concentration of a running measurement.
     SetConcentration(u32),
-    // 3650: start on a mixture of gas 0 in gas 1.
-    StartGas0In1(u32),
-    // 365B: start on a mixture of gas 7 in gas 8.
-    StartGas7In8(u32),
+    // 3650: start on mixture 0, gas 0 in gas 1.
+    StartMixture0(u32),
+    // 365B: start on mixture 1, gas 7 in gas 8.
+    StartMixture1(u32),
     // 3FEF
     ShutValve,
     // 3F6E
@@ -90,8 +90,8 @@ pub fn write_sfc6(command: Sfc6, out: &mut [u8]) -> Stored
         Sfc6::PointToTemperature => write_alone(0xE102, out),
         Sfc6::PointBack => write_alone(0xE000, out),
         Sfc6::SetConcentration(concentration) => write_taking(0xE17D, concentration, out),
-        Sfc6::StartGas0In1(concentration) => write_taking(0x3650, concentration, out),
-        Sfc6::StartGas7In8(concentration) => write_taking(0x365B, concentration, out),
+        Sfc6::StartMixture0(concentration) => write_taking(0x3650, concentration, out),
+        Sfc6::StartMixture1(concentration) => write_taking(0x365B, concentration, out),
         Sfc6::ShutValve => write_alone(0x3FEF, out),
         Sfc6::NormalControl => write_alone(0x3F6E, out),
     }

@@ -10,7 +10,7 @@ fn bit_step(c: u8) -> u8
 }
 
 // One byte.
-pub fn byte_step(c: u8, b: u8) -> u8
+pub(crate) fn byte_step(c: u8, b: u8) -> u8
     ensures { λ r. ⌜ r ≡ byteStep c b ⌝ }
 {
     let x0 = c ^ b;

@@ -36,20 +36,20 @@ pub fn start_value(family: Family) -> u8
     }
 }
 
-pub fn high(word: u16) -> u8
+pub(crate) fn high(word: u16) -> u8
     ensures { λ r. ⌜ r ≡ word / 256 ⌝ }
 {
     (word / 256) as u8
 }
 
-pub fn low(word: u16) -> u8
+pub(crate) fn low(word: u16) -> u8
     ensures { λ r. ⌜ r ≡ word % 256 ⌝ }
 {
     (word % 256) as u8
 }
 
 // The CRC of a word's two bytes.
-pub fn pair_crc(start: u8, h: u8, l: u8) -> u8
+pub(crate) fn pair_crc(start: u8, h: u8, l: u8) -> u8
     ensures { λ r. ⌜ r ≡ crcOf start (h ∷ l ∷ []) ⌝ }
 {
     byte_step(byte_step(start, h), l)

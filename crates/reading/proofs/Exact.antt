@@ -1,7 +1,7 @@
 -- Both operands of the division are exact: single precision holds the difference and the scale without rounding. Assumes nothing.
-use mathlib.Core.Path.{_≡_, refl, sym, subst}
+use mathlib.Core.Path.{_≡_}
 use mathlib.Core.Bool.{true, false}
-use Prim.Native.Nat.{ℕ, _+_, _^_, _≤_, _<_}
+use Prim.Native.Nat.{_^_, _<_}
 use native.Mathlib.Omega.{arith}
 use lib.Dec.{leb·suc-zero}
 use lib.IntN.{ℤ, pos, negsuc, natAbs, _-ℤ_}

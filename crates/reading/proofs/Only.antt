@@ -1,10 +1,9 @@
 -- The relation of specs/ names one answer: two answers in thousandths for the same reading are equal. Assumes nothing.
 use mathlib.Core.Path.{_≡_, sym, ap, _∙_, subst}
-use mathlib.Core.Bool.{true, false}
 use lib.Dec.{T}
 use lib.IntN.{ℤ, pos, natAbs, _-ℤ_, _*ℤ_}
 use Rattle.refusal.specs.Refusals.{Answered, served, refused}
-use Rattle.reading.specs.Reading.{goodScale, InThousandths}
+use Rattle.reading.specs.Reading.{InThousandths}
 use Rattle.reading.proofs.Rounding.{rounded-only}
 use Rattle.reading.proofs.Scale.{good-size}
 

@@ -1,16 +1,15 @@
 -- Signed numbers as code has them: read back from their bits, and bounded by their size. Assumes nothing.
 use mathlib.Core.Path.{_≡_, refl, sym, ap, _∙_, subst}
-use mathlib.Core.Bool.{Bool, true, false, cond}
-use Prim.Native.Nat.{ℕ, zero, suc, _+_, _-_, _*_, _/_, _^_, _≤_, _<_}
-use native.Mathlib.Nat.{div-le-self, div-eq-of-lt, zero-add}
+use mathlib.Core.Bool.{Bool, true, false}
+use Prim.Native.Nat.{ℕ, zero, suc, _+_, _-_, _^_, _≤_, _<_}
 use native.Mathlib.Omega.{arith}
-use lib.Dec.{T, leb, ltb, le→leb, lt→ltb, leb·suc-zero}
+use lib.Dec.{T, leb, ltb, le→leb, lt→ltb}
 use lib.Dec as D
-use lib.IntN.{ℤ, pos, negsuc, negℤ, natAbs, subℕ, _-ℤ_, _+ℤ_, _*ℤ_, +ℤ-idl}
+use lib.IntN.{ℤ, pos, negsuc, negℤ, natAbs, subℕ, _-ℤ_, _+ℤ_, +ℤ-idl}
 use lib.Signed.{mag, ltZ, nonNeg}
 use lib.Ieee.{binary32, inFloat}
-use borrow.Author.Tests.{ltb-true, ltb-false, lt-ltb, le-ltb}
-use mir.Syntax.{Width, w32}
+use borrow.Author.Tests.{ltb-true}
+use mir.Syntax.{Width}
 use mir.Val.{hbits, SFits, toZ, ofZ}
 use mir.ValLaws.{toZ-ofZ}
 

@@ -1,6 +1,6 @@
 -- `reading::over_scale` meets its contract: rounding goes by sign and size. Assumes nothing.
 use mathlib.Core.Path.{_≡_, _∙_, sym, subst}
-use Prim.Native.Nat.{_*_, _/_, _+_, _≤_}
+use Prim.Native.Nat.{_*_, _+_}
 use native.Mathlib.Nat.{div-le-self}
 use native.Mathlib.Omega.{arith}
 use lib.IntN.{ℤ, natAbs, pos, _*ℤ_}

@@ -1,5 +1,4 @@
--- `reading::size` meets its contract.
--- Assumes nothing.
+-- `reading::size` meets its contract. Assumes nothing.
 use native.Mathlib.Omega.{arith}
 use lib.IntN.{pos, _-ℤ_}
 use mir.Syntax.{w32}

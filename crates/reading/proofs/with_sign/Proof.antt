@@ -1,5 +1,4 @@
--- `reading::with_sign` meets its contract.
--- Assumes nothing.
+-- `reading::with_sign` meets its contract. Assumes nothing.
 use mathlib.Core.Path.{_∙_}
 use lib.IntN.{pos, _-ℤ_, +ℤ-idl}
 use mir.Syntax.{w32}

@@ -1,4 +1,4 @@
--- `i2c::crc::bit_step` meets its contract: the polynomial is added as often as the bit that leaves says.
+-- `i2c::crc::bit_step` meets its contract: the polynomial is added as often as the bit that leaves says. Assumes nothing.
 use borrow.Author.Needs.{needs}
 use mathlib.Core.Path.{sym}
 use Rattle.i2c.proofs.CrcLaws.{step-split}

@@ -1,4 +1,4 @@
--- `i2c::crc::byte_step` meets its contract: eight bit steps.
+-- `i2c::crc::byte_step` meets its contract: eight bit steps. Assumes nothing.
 use borrow.Author.Needs.{needs}
 use Rattle.i2c.specs.Crc.{bitSteps, byteStep}
 use Rattle.i2c.proofs.crc.byte_step.Statement.{statement}

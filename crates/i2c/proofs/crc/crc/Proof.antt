@@ -1,4 +1,4 @@
--- `i2c::crc::crc` meets its contract. The loop's invariant: what is left, from the present register, gives the whole CRC.
+-- `i2c::crc::crc` meets its contract. The loop's invariant: what is left, from the present register, gives the whole CRC. Assumes nothing.
 use borrow.Author.Needs.{needs}
 use Prim.Native.Nat.{_≤_, _-_}
 use mathlib.Core.Path.{_≡_, refl}

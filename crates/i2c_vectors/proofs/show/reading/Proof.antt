@@ -1,10 +1,10 @@
--- `i2c_vectors::reading` is safe and ends: an `i16` fits an `i32`. Assumes nothing.
+-- `i2c_vectors::show::reading` is safe and ends: an `i16` fits an `i32`. Assumes nothing.
 use mir.Syntax.{w16}
 use mir.ValLaws.{toZ-ofZ}
 use mir.Facts.{sfits-widen}
 use borrow.Author.Needs.{needs}
-use Rattle.i2c_vectors.proofs.reading.Statement.{statement}
-use Rattle.i2c_vectors.proofs.reading.Tie as tie
+use Rattle.i2c_vectors.proofs.show.reading.Statement.{statement}
+use Rattle.i2c_vectors.proofs.show.reading.Tie as tie
 
 cast-whole : tie.Need-cast-whole
 cast-whole c =

@@ -1,8 +1,8 @@
--- `i2c_vectors::row` is safe and ends. Assumes nothing.
+-- `i2c_vectors::show::row` is safe and ends. Assumes nothing.
 use Prim.Native.Nat.{_-_, _≤_}
 use borrow.Author.Needs.{needs}
-use Rattle.i2c_vectors.proofs.row.Statement.{statement}
-use Rattle.i2c_vectors.proofs.row.Tie as tie
+use Rattle.i2c_vectors.proofs.show.row.Statement.{statement}
+use Rattle.i2c_vectors.proofs.show.row.Tie as tie
 
 abbrev Inv-loop : tie.InvT-loop
 Inv-loop first k₀ t5 k = k ≤ 16
