@@ -1,0 +1,10 @@
+pub mod CrcLaws
+pub mod WordLaws
+pub mod WordAnswers
+pub mod CommandAnswers
+pub mod RegisterLaws
+pub mod Xor
+pub mod Linear
+pub mod OneToOne
+pub mod RoundTrip
+pub mod Families

@@ -1,0 +1,50 @@
+-- `i2c::crc::crc` meets its contract. The loop's invariant: what is left, from the present register, gives the whole CRC. Assumes nothing.
+use borrow.Author.Needs.{needs}
+use Prim.Native.Nat.{_≤_, _-_}
+use mathlib.Core.Path.{_≡_, refl}
+use lib.ListN.{length, drop}
+use Rattle.i2c.specs.Crc.{crcOf}
+use Rattle.i2c.proofs.CrcLaws.{crc-more, crc-end}
+use Rattle.i2c.proofs.crc.crc.Statement.{statement}
+use Rattle.i2c.proofs.crc.crc.Tie as tie
+
+abbrev Inv-loop : tie.InvT-loop
+Inv-loop start bytes c₀ i₀ c i = (i ≤ length bytes) × (crcOf c (drop i bytes) ≡ crcOf start bytes)
+
+abbrev μ-loop : tie.MeasureT-loop
+μ-loop start bytes c₀ i₀ c i = length bytes - i
+
+loop-holds : tie.Need-loop-holds Inv-loop μ-loop
+loop-holds c = (search needs, refl)
+
+shared-slice-read-byte-step : tie.Need-shared-slice-read-byte-step Inv-loop μ-loop
+shared-slice-read-byte-step c = search needs
+
+byte-step-requires : tie.Need-byte-step-requires Inv-loop μ-loop
+byte-step-requires c κs = search needs
+
+add-i : tie.Need-add-i Inv-loop μ-loop
+add-i c = search needs
+
+loop-less : tie.Need-loop-less Inv-loop μ-loop
+loop-less c = search needs
+
+loop-again : tie.Need-loop-again Inv-loop μ-loop
+loop-again c = (search needs, crc-more _ _ _ _ (c .before .before .loop-test .taken) (c .byte-step .ensures) (c .before .before .before .loop .inv .1))
+
+returns : tie.Need-returns Inv-loop μ-loop
+returns c = crc-end _ _ _ (c .loop-test .left) (c .before .loop .inv .1)
+
+pub crc-spec : {M : Type 1} → statement M
+crc-spec =
+    tie.close
+    (tie.spec
+    Inv-loop
+    μ-loop
+    loop-holds
+    shared-slice-read-byte-step
+    byte-step-requires
+    add-i
+    loop-less
+    loop-again
+    returns)

@@ -1,0 +1,6 @@
+-- The definitions that the contracts cite.
+pub mod Answer
+pub mod Crc
+pub mod Word
+pub mod Command
+pub mod Register
