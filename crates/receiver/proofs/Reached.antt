@@ -14,6 +14,7 @@ use Rattle.refusal.proofs.Room.{overlay-nothing, set-overlay, overlay-then, ove
 use Rattle.shdlc.specs.declared.Kind.{Kind}
 use Rattle.shdlc.specs.Stuffing.{escapes, rightOf, sent, stuffByte, stuff}
 use Rattle.shdlc.specs.Stream.{Event, byte, mark}
+use Rattle.shdlc.proofs.Stuffing.{each-byte}
 use Rattle.shdlc.proofs.Stream.{map-append}
 use Rattle.receiver.specs.declared.Mode.{Mode}
 use Rattle.receiver.specs.declared.Mode.the-variants.{Outside, Plain, Escaped, BadEscape, BareControl}
@@ -36,19 +37,11 @@ module _ (kind : Kind) (n : ℕ) (store : List ℕ) where
   same-push true b = refl
   same-push false b = refl
 
-  is : (b k : ℕ) → eqb b k ≡ true → Stores k → Stores b
-  is b k e h = subst Stores (sym (eqb-true b k e)) h
-
   stores : (b : ℕ) → Stores b
   unfolding stuffByte recordFrom nextRecord nextByte acted
-  stores b = go (eqb b 0x7E) (eqb b 0x7D) (eqb b 0x11) (eqb b 0x13) refl refl refl refl
-    where
-      go : (x y z w : Bool) → eqb b 0x7E ≡ x → eqb b 0x7D ≡ y → eqb b 0x11 ≡ z → eqb b 0x13 ≡ w → Stores b
-      go true y z w p q r s = is b 0x7E p (same-push (ltb n 260) 0x7E)
-      go false true z w p q r s = is b 0x7D q (same-push (ltb n 260) 0x7D)
-      go false false true w p q r s = is b 0x11 r (same-push (ltb n 260) 0x11)
-      go false false false true p q r s = is b 0x13 s (same-push (ltb n 260) 0x13)
-      go false false false false p q r s = simp (p, q, r, s)
+  stores =
+      each-byte Stores (same-push (ltb n 260) 0x7E) (same-push (ltb n 260) 0x7D) (same-push (ltb n 260) 0x11) (same-push (ltb n 260) 0x13)
+      (λ b p q r s. simp (p, q, r, s))
 
 -- bytes as they are sent are stored one after the other
 stores-all : (kind : Kind) (bytes : List ℕ) (n : ℕ) (store : List ℕ) → length store ≡ 260 → n + length bytes ≤ 260
