@@ -1,0 +1,4 @@
+-- The laws of the definitions in specs/, a file for each subject.
+pub mod Floats
+pub mod Table
+pub mod Checks

@@ -1,0 +1,265 @@
+// The typed commands of the SFC6 family: the table, and requests written and read.
+use refusal::Refusal;
+use shdlc::Checked;
+ghost use mathlib.Core.Path.{_≡_};
+ghost use Prim.Native.Nat.{_+_, _≤_, _<_, min};
+ghost use lib.ListN.{length, getD};
+ghost use lib.Ieee.{binary32, toBits, ofBits};
+ghost use Rattle.sfc6.specs.Commands.{withSub, withoutSub, row, requestAt, bauds, member, finite, outOfRange, badFloat, addressToAll};
+ghost use Rattle.sfc6.specs.Requests.{checkRequest};
+ghost use Rattle.sfc6.specs.Paper.{paperPassed};
+
+// A request, with the value that it carries.
+pub enum Request {
+    GetSetpoint,
+    SetSetpoint(f32),
+    MeasuredValue,
+    GetGain,
+    SetGain(f32),
+    GetInitStep,
+    SetInitStep(f32),
+    RawFlow,
+    RawConductivity,
+    Temperature,
+    NumberOfCalibrations,
+    Validity(u32),
+    FullScale,
+    GetCalibration,
+    SetCalibration(u32),
+    VolatileCalibration(u32),
+    GetAddress,
+    SetAddress(u8),
+    GetBaud,
+    SetBaud(u32),
+    ProductType,
+}
+
+// The subcommand of a row.
+pub enum Subcommand {
+    Missing,
+    Byte(u8),
+}
+
+// What a request carries after its subcommand.
+pub enum Value {
+    Nothing,
+    Float(f32),
+    U32(u32),
+    Address(u8),
+    Baud(u32),
+}
+
+// What the reply carries.
+pub enum Answer {
+    Nothing,
+    Float,
+    U16,
+    U32,
+    Validity,
+    Address,
+    Baud,
+    Text,
+}
+
+// A row of the table of commands.
+pub struct Row {
+    pub command: u8,
+    pub sub: Subcommand,
+    pub value: Value,
+    pub answer: Answer,
+}
+
+// The bits of a float; of a NaN those of the quiet one.
+pub fn bits_of(x: f32) -> u32
+    ensures { λ r. ⌜ r ≡ toBits binary32 x ⌝ }
+{
+    if x != x {
+        return 0x7FC0_0000;
+    }
+    f32::to_bits(x)
+}
+
+// The float of its bits; of the bits of any NaN, a NaN.
+pub fn float_of(bits: u32) -> f32
+    ensures { λ r. ⌜ r ≡ ofBits binary32 bits ⌝ }
+{
+    if 0x7F80_0000 < bits % 0x8000_0000 {
+        return 0.0 / 0.0;
+    }
+    f32::from_bits(bits)
+}
+
+// Whether the exponent's bits are not all ones.
+pub fn is_finite(bits: u32) -> bool
+    ensures { λ r. ⌜ r ≡ finite bits ⌝ }
+{
+    bits / 0x80_0000 % 256 != 255
+}
+
+// The rates that the line can run at.
+pub const BAUDS: [u32; 5] = [9600, 19200, 38400, 57600, 115200];
+
+fn contains(rates: &[u32], rate: u32) -> bool
+    ensures { λ r. ⌜ r ≡ member rate (now (rates .entry)) ⌝ }
+{
+    let mut i: usize = 0;
+    while i < rates.len() {
+        if rates[i] == rate {
+            return true;
+        }
+        i += 1;
+    }
+    false
+}
+
+// Whether the rate is one of the five.
+pub fn is_baud(rate: u32) -> bool
+    ensures { λ r. ⌜ r ≡ member rate bauds ⌝ }
+{
+    contains(&BAUDS, rate)
+}
+
+// A row with a subcommand, and one without.
+fn with_sub(command: u8, sub: u8, value: Value, answer: Answer) -> Row
+    ensures { λ r. ⌜ r ≡ withSub command sub value answer ⌝ }
+{
+    Row {
+        command: command,
+        sub: Subcommand::Byte(sub),
+        value: value,
+        answer: answer,
+    }
+}
+
+fn without_sub(command: u8, value: Value, answer: Answer) -> Row
+    ensures { λ r. ⌜ r ≡ withoutSub command value answer ⌝ }
+{
+    Row {
+        command: command,
+        sub: Subcommand::Missing,
+        value: value,
+        answer: answer,
+    }
+}
+
+// The table of commands.
+pub fn row_of(request: Request) -> Row
+    ensures { λ r. ⌜ r ≡ row request ⌝ }
+{
+    match request {
+        Request::GetSetpoint => with_sub(0x00, 0x01, Value::Nothing, Answer::Float),
+        Request::SetSetpoint(x) => with_sub(0x00, 0x01, Value::Float(x), Answer::Nothing),
+        Request::MeasuredValue => with_sub(0x08, 0x01, Value::Nothing, Answer::Float),
+        Request::GetGain => with_sub(0x22, 0x00, Value::Nothing, Answer::Float),
+        Request::SetGain(x) => with_sub(0x22, 0x00, Value::Float(x), Answer::Nothing),
+        Request::GetInitStep => with_sub(0x22, 0x03, Value::Nothing, Answer::Float),
+        Request::SetInitStep(x) => with_sub(0x22, 0x03, Value::Float(x), Answer::Nothing),
+        Request::RawFlow => with_sub(0x30, 0x00, Value::Nothing, Answer::U16),
+        Request::RawConductivity => with_sub(0x30, 0x02, Value::Nothing, Answer::U16),
+        Request::Temperature => with_sub(0x30, 0x10, Value::Nothing, Answer::Float),
+        Request::NumberOfCalibrations => with_sub(0x40, 0x00, Value::Nothing, Answer::U32),
+        Request::Validity(index) => with_sub(0x40, 0x10, Value::U32(index), Answer::Validity),
+        Request::FullScale => with_sub(0x44, 0x14, Value::Nothing, Answer::Float),
+        Request::GetCalibration => without_sub(0x45, Value::Nothing, Answer::U32),
+        Request::SetCalibration(n) => without_sub(0x45, Value::U32(n), Answer::Nothing),
+        Request::VolatileCalibration(n) => without_sub(0x46, Value::U32(n), Answer::Nothing),
+        Request::GetAddress => without_sub(0x90, Value::Nothing, Answer::Address),
+        Request::SetAddress(a) => without_sub(0x90, Value::Address(a), Answer::Nothing),
+        Request::GetBaud => without_sub(0x91, Value::Nothing, Answer::Baud),
+        Request::SetBaud(rate) => without_sub(0x91, Value::Baud(rate), Answer::Nothing),
+        Request::ProductType => with_sub(0xD0, 0x00, Value::Nothing, Answer::Text),
+    }
+}
+
+// A number as an address: 255, which is out of range, where it is no byte.
+fn address_of(n: u32) -> u8
+    ensures { λ r. ⌜ r ≡ min n 255 ⌝ }
+{
+    if n < 255 { n as u8 } else { 255 }
+}
+
+// The request of its number in the table's order, 0 to 20, and of the number that it carries; 20 and above are the last.
+pub fn request_of(place: usize, n: u32) -> Request
+    ensures { λ r. ⌜ r ≡ requestAt place n ⌝ }
+{
+    match place {
+        0 => Request::GetSetpoint,
+        1 => Request::SetSetpoint(float_of(n)),
+        2 => Request::MeasuredValue,
+        3 => Request::GetGain,
+        4 => Request::SetGain(float_of(n)),
+        5 => Request::GetInitStep,
+        6 => Request::SetInitStep(float_of(n)),
+        7 => Request::RawFlow,
+        8 => Request::RawConductivity,
+        9 => Request::Temperature,
+        10 => Request::NumberOfCalibrations,
+        11 => Request::Validity(n),
+        12 => Request::FullScale,
+        13 => Request::GetCalibration,
+        14 => Request::SetCalibration(n),
+        15 => Request::VolatileCalibration(n),
+        16 => Request::GetAddress,
+        17 => Request::SetAddress(address_of(n)),
+        18 => Request::GetBaud,
+        19 => Request::SetBaud(n),
+        _ => Request::ProductType,
+    }
+}
+
+// 12: an address above 254, or a baud that is none of the five.
+fn out_of_range(value: Value) -> bool
+    ensures { λ r. ⌜ r ≡ outOfRange value ⌝ }
+{
+    match value {
+        Value::Nothing => false,
+        Value::Float(_) => false,
+        Value::U32(_) => false,
+        Value::Address(a) => a > 254,
+        Value::Baud(rate) => !is_baud(rate),
+    }
+}
+
+// 13: a float that is not finite.
+fn bad_float(value: Value) -> bool
+    ensures { λ r. ⌜ r ≡ badFloat value ⌝ }
+{
+    match value {
+        Value::Nothing => false,
+        Value::Float(x) => !is_finite(bits_of(x)),
+        Value::U32(_) => false,
+        Value::Address(_) => false,
+        Value::Baud(_) => false,
+    }
+}
+
+// 10: set slave address sent to address 255.
+fn address_to_all(address: u8, value: Value) -> bool
+    ensures { λ r. ⌜ r ≡ addressToAll address value ⌝ }
+{
+    match value {
+        Value::Nothing => false,
+        Value::Float(_) => false,
+        Value::U32(_) => false,
+        Value::Address(_) => address == 255,
+        Value::Baud(_) => false,
+    }
+}
+
+// The request's own refusals, in their order: 12, 13, 10.
+pub fn check_request(address: u8, request: Request) -> Checked
+    ensures { λ r. ⌜ paperPassed (address, request) r ≡ checkRequest address request ⌝ }
+{
+    let row = row_of(request);
+    let value = row.value;
+    if out_of_range(value) {
+        return Checked::Refused(Refusal::OutOfRange);
+    }
+    if bad_float(value) {
+        return Checked::Refused(Refusal::BadFloat);
+    }
+    if address_to_all(address, value) {
+        return Checked::Refused(Refusal::AddressBroadcast);
+    }
+    Checked::Good
+}
