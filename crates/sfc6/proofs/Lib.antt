@@ -2,3 +2,6 @@
 pub mod Floats
 pub mod Table
 pub mod Checks
+pub mod Laid
+pub mod Order
+pub mod Writing

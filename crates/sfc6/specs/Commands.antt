@@ -23,7 +23,7 @@ abbrev pub withoutSub : ℕ → Value → Answer → Row
 withoutSub command value answer = record { command = command; sub = sub.Missing; value = value; answer = answer }
 
 -- the table, in its order, the get before the set
-abbrev pub row : Request → Row
+unfoldable pub row : Request → Row
 row GetSetpoint = withSub 0x00 0x01 Nothing reply.Float
 row (SetSetpoint x) = withSub 0x00 0x01 (Float x) reply.Nothing
 row MeasuredValue = withSub 0x08 0x01 Nothing reply.Float

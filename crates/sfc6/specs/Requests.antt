@@ -3,7 +3,7 @@ use Prim.Native.Nat.{ℕ}
 use mathlib.Core.Bool.{Bool}
 use mathlib.Core.List.{List, [], _∷_, _++_}
 use lib.Dec.{ltb}
-use lib.ListN.{length}
+use lib.ListN.{length, take, drop}
 use lib.Ieee.{binary32, toBits}
 use Rattle.refusal.specs.Refusals.{Numbered, number, Answered, served, refused, inOrder}
 use Rattle.refusal.specs.Room.{emit}
@@ -12,6 +12,7 @@ use Rattle.payload.specs.Field.{bigEndian}
 use Rattle.sfc6.specs.declared.Request.{Request}
 use Rattle.sfc6.specs.declared.Subcommand.{Subcommand}
 use Rattle.sfc6.specs.declared.Subcommand.the-variants as sub
+use Rattle.sfc6.specs.declared.Row.{Row}
 use Rattle.sfc6.specs.declared.Value.{Value}
 use Rattle.sfc6.specs.declared.Value.the-variants.{Nothing, Float, U32, Address, Baud}
 use Rattle.sfc6.specs.Commands.{row, outOfRange, badFloat, addressToAll}
@@ -40,20 +41,21 @@ valueBytes (U32 n) = bigEndian 4 n
 valueBytes (Address a) = bigEndian 1 a
 valueBytes (Baud rate) = bigEndian 4 rate
 
--- the data of a request
-unfoldable pub dataOf : Request → List ℕ
-dataOf request = subBytes (row request .sub) ++ valueBytes (row request .value)
+-- the data of a request, by its row
+unfoldable pub dataOf : Row → List ℕ
+dataOf r = subBytes (r .sub) ++ valueBytes (r .value)
 
 -- 01, Frames on the wire: "address, command, L, L data bytes", the checksum aside
-unfoldable pub bodyOf : ℕ → Request → List ℕ
-bodyOf address request = address ∷ row request .command ∷ length (dataOf request) ∷ dataOf request
+unfoldable pub bodyOf : ℕ → Row → List ℕ
+bodyOf address r = address ∷ r .command ∷ length (dataOf r) ∷ dataOf r
 
 -- "Order": "writing one 12, 13, 10, 5, 1". "Number 5 is tested in both writers, for data over 255 bytes."
 unfoldable pub frameToWrite : ℕ → Request → Answered (List ℕ)
 frameToWrite address request =
-    inOrder (requestChecks address request ++ ((ltb 255 (length (dataOf request)), number 5) ∷ [])) (frameOf (bodyOf address request))
+    inOrder (requestChecks address request ++ ((ltb 255 (length (dataOf (row request))), number 5) ∷ []))
+    (frameOf (bodyOf address (row request)))
 
--- number 1 comes last: a frame goes into the lent room, or does not fit
+-- number 1 comes last: a frame goes to the start of the lent room, or does not fit
 abbrev pub lay : Answered (List ℕ) → List ℕ → Answered ℕ × List ℕ
 lay (served frame) room = emit frame room
 lay (refused n) room = (refused n, room)
@@ -61,3 +63,8 @@ lay (refused n) room = (refused n, room)
 -- what the writer of a request answers, and what the lent room then holds
 unfoldable pub writeRequest : ℕ → Request → List ℕ → Answered ℕ × List ℕ
 writeRequest address request room = lay (frameToWrite address request) room
+
+-- "each into the room left in the middle of the buffer": from the starting place on; what stands before it stays
+unfoldable pub appendRequest : List ℕ → ℕ → ℕ → Request → Answered ℕ × List ℕ
+appendRequest buffer start address request =
+    (writeRequest address request (drop start buffer) .0, take start buffer ++ writeRequest address request (drop start buffer) .1)

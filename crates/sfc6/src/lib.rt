@@ -1,12 +1,16 @@
 // The typed commands of the SFC6 family: the table, and requests written and read.
 use refusal::Refusal;
 use shdlc::Checked;
+use shdlc::Written;
 ghost use mathlib.Core.Path.{_≡_};
-ghost use Prim.Native.Nat.{_+_, _≤_, _<_, min};
-ghost use lib.ListN.{length, getD};
+ghost use Prim.Native.Nat.{_+_, _/_, _%_, _^_, _≤_, _<_, min};
+ghost use lib.ListN.{length};
 ghost use lib.Ieee.{binary32, toBits, ofBits};
 ghost use Rattle.sfc6.specs.Commands.{withSub, withoutSub, row, requestAt, bauds, member, finite, outOfRange, badFloat, addressToAll};
-ghost use Rattle.sfc6.specs.Requests.{checkRequest};
+ghost use Rattle.sfc6.specs.Requests.{checkRequest, subBytes, valueBytes, dataOf, bodyOf, writeRequest, appendRequest};
+ghost use Rattle.refusal.specs.Room.{overlay};
+ghost use Rattle.shdlc.specs.Paper.{paperWritten};
+ghost use Rattle.payload.specs.Field.{bigEndian};
 ghost use Rattle.sfc6.specs.Paper.{paperPassed};
 
 // A request, with the value that it carries.
@@ -262,4 +266,137 @@ pub fn check_request(address: u8, request: Request) -> Checked
         return Checked::Refused(Refusal::AddressBroadcast);
     }
     Checked::Good
+}
+
+// Byte `k` of a number, from the least significant.
+fn byte_of(n: u32, k: usize) -> u8
+    requires { ⌜ k < 4 ⌝ }
+    ensures { λ r. ⌜ r ≡ n / 256 ^ k % 256 ⌝ }
+{
+    match k {
+        0 => (n % 256) as u8,
+        1 => (n / 0x100 % 256) as u8,
+        2 => (n / 0x1_0000 % 256) as u8,
+        _ => (n / 0x100_0000 % 256) as u8,
+    }
+}
+
+// Writes the last `count` bytes of a number, the most significant first, and answers the place after them.
+fn put_number(out: &mut [u8], place: usize, count: usize, n: u32) -> usize
+    requires { ⌜ (count ≤ 4) × (place + count ≤ length (now out)) ⌝ }
+    ensures { λ r. ⌜ (r ≡ place + count) × (now (out .exit) ≡ overlay (now (out .entry)) place (bigEndian count n)) ⌝ }
+{
+    let mut o = place;
+    let mut k = count;
+    while 0 < k {
+        k -= 1;
+        out[o] = byte_of(n, k);
+        o += 1;
+    }
+    o
+}
+
+fn wide(b: u8) -> u32
+    ensures { λ r. ⌜ r ≡ b ⌝ }
+{
+    b as u32
+}
+
+fn put_value(out: &mut [u8], place: usize, value: Value) -> usize
+    requires { ⌜ place + length (valueBytes value) ≤ length (now out) ⌝ }
+    ensures { λ r. ⌜ (r ≡ place + length (valueBytes value)) × (now (out .exit) ≡ overlay (now (out .entry)) place (valueBytes value)) ⌝ }
+{
+    match value {
+        Value::Nothing => place,
+        Value::Float(x) => put_number(out, place, 4, bits_of(x)),
+        Value::U32(n) => put_number(out, place, 4, n),
+        Value::Address(a) => put_number(out, place, 1, wide(a)),
+        Value::Baud(rate) => put_number(out, place, 4, rate),
+    }
+}
+
+fn put_sub(out: &mut [u8], place: usize, sub: Subcommand) -> usize
+    requires { ⌜ place + length (subBytes sub) ≤ length (now out) ⌝ }
+    ensures { λ r. ⌜ (r ≡ place + length (subBytes sub)) × (now (out .exit) ≡ overlay (now (out .entry)) place (subBytes sub)) ⌝ }
+{
+    match sub {
+        Subcommand::Missing => place,
+        Subcommand::Byte(s) => {
+            out[place] = s;
+            place + 1
+        }
+    }
+}
+
+fn sub_size(sub: Subcommand) -> usize
+    ensures { λ r. ⌜ (r ≡ length (subBytes sub)) × (r ≤ 1) ⌝ }
+{
+    match sub {
+        Subcommand::Missing => 0,
+        Subcommand::Byte(_) => 1,
+    }
+}
+
+fn value_size(value: Value) -> usize
+    ensures { λ r. ⌜ (r ≡ length (valueBytes value)) × (r ≤ 4) ⌝ }
+{
+    match value {
+        Value::Nothing => 0,
+        Value::Float(_) => 4,
+        Value::U32(_) => 4,
+        Value::Address(_) => 1,
+        Value::Baud(_) => 4,
+    }
+}
+
+// How many data bytes a request has.
+fn data_size(row: Row) -> usize
+    ensures { λ r. ⌜ (r ≡ length (dataOf row)) × (r ≤ 5) ⌝ }
+{
+    let sub = row.sub;
+    let value = row.value;
+    sub_size(sub) + value_size(value)
+}
+
+// Writes the body of a request, its checksum aside, at the start of `out`, and answers its length.
+fn put_body(out: &mut [u8], address: u8, row: Row, size: usize) -> usize
+    requires { ⌜ (8 ≤ length (now out)) × (size ≡ length (dataOf row)) × (size ≤ 5) ⌝ }
+    ensures { λ r. ⌜ (r ≡ length (bodyOf address row)) × (now (out .exit) ≡ overlay (now (out .entry)) 0 (bodyOf address row)) ⌝ }
+{
+    let sub = row.sub;
+    let value = row.value;
+    out[0] = address;
+    out[1] = row.command;
+    out[2] = size as u8;
+    let place = put_sub(out, 3, sub);
+    put_value(out, place, value)
+}
+
+// Writes the frame of a request at the start of the lent room.
+pub fn write_request(address: u8, request: Request, out: &mut [u8]) -> Written
+    ensures { λ r. ⌜ (paperWritten r, now (out .exit)) ≡ writeRequest address request (now (out .entry)) ⌝ }
+{
+    if let Checked::Refused(r) = check_request(address, request) {
+        return Written::Refused(r);
+    }
+    let row = row_of(request);
+    let size = data_size(row);
+    if 255 < size {
+        return Written::Refused(Refusal::BodyTooLong);
+    }
+    let mut body = [0u8; 8];
+    let end = put_body(&mut body, address, row, size);
+    shdlc::write_frame(&body[..end], out)
+}
+
+// Writes the frame of a request into the room that a buffer has left from `start` on. Past its end there is none: 1, but only where
+// nothing else is refused.
+pub fn append_request(buffer: &mut [u8], start: usize, address: u8, request: Request) -> Written
+    ensures { λ r. ⌜ (paperWritten r, now (buffer .exit)) ≡ appendRequest (now (buffer .entry)) start address request ⌝ }
+{
+    let mut end = buffer.len();
+    if start < end {
+        end = start;
+    }
+    write_request(address, request, &mut buffer[end..])
 }

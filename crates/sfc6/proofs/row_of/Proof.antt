@@ -6,6 +6,7 @@ use Rattle.sfc6.proofs.row_of.Statement.{statement}
 use Rattle.sfc6.proofs.row_of.Tie as tie
 
 pub row-of-spec : {M : Type 1} → statement M
+unfolding row
 row-of-spec =
     tie.close
     (tie.spec
