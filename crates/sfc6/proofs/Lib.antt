@@ -5,3 +5,4 @@ pub mod Checks
 pub mod Laid
 pub mod Order
 pub mod Writing
+pub mod Rounds

@@ -1,5 +1,5 @@
 -- 01, Commands of the SFC6 family and Refusal numbers: a request on the wire, what is refused of it, and in which order.
-use Prim.Native.Nat.{ℕ}
+use Prim.Native.Nat.{ℕ, _+_}
 use mathlib.Core.Bool.{Bool}
 use mathlib.Core.List.{List, [], _∷_, _++_}
 use lib.Dec.{ltb}
@@ -68,3 +68,21 @@ writeRequest address request room = lay (frameToWrite address request) room
 unfoldable pub appendRequest : List ℕ → ℕ → ℕ → Request → Answered ℕ × List ℕ
 appendRequest buffer start address request =
     (writeRequest address request (drop start buffer) .0, take start buffer ++ writeRequest address request (drop start buffer) .1)
+
+-- What a polling round answers: how many frames stand, the place after them, and the refusal that ended it, if one did.
+abbrev pub Laid : Type 0
+Laid = ℕ × ℕ × Answered (Unit {0})
+
+-- after one call: the rest of the round goes on from the end of its frame, or the round is over
+abbrev pub roundOn : (ℕ → ℕ → List ℕ → Laid × List ℕ) → ℕ → ℕ → Answered ℕ → List ℕ → Laid × List ℕ
+roundOn rest frames end (served size) buffer = rest (frames + 1) (end + size) buffer
+roundOn rest frames end (refused n) buffer = ((frames, end, refused n), buffer)
+
+unfoldable pub roundFrom : Request → List ℕ → ℕ → ℕ → List ℕ → Laid × List ℕ
+roundFrom request [] frames end buffer = ((frames, end, served tt), buffer)
+roundFrom request (node ∷ nodes) frames end buffer =
+    roundOn (roundFrom request nodes) frames end (appendRequest buffer end node request .0) (appendRequest buffer end node request .1)
+
+-- "A polling round lays its frames one after another. Each frame is one call": here a request to each of the nodes
+unfoldable pub pollRound : List ℕ → ℕ → List ℕ → Request → Laid × List ℕ
+pollRound buffer start nodes request = roundFrom request nodes 0 start buffer

@@ -7,11 +7,11 @@ ghost use Prim.Native.Nat.{_+_, _/_, _%_, _^_, _≤_, _<_, min};
 ghost use lib.ListN.{length};
 ghost use lib.Ieee.{binary32, toBits, ofBits};
 ghost use Rattle.sfc6.specs.Commands.{withSub, withoutSub, row, requestAt, bauds, member, finite, outOfRange, badFloat, addressToAll};
-ghost use Rattle.sfc6.specs.Requests.{checkRequest, subBytes, valueBytes, dataOf, bodyOf, writeRequest, appendRequest};
+ghost use Rattle.sfc6.specs.Requests.{checkRequest, subBytes, valueBytes, dataOf, bodyOf, writeRequest, appendRequest, pollRound};
 ghost use Rattle.refusal.specs.Room.{overlay};
 ghost use Rattle.shdlc.specs.Paper.{paperWritten};
 ghost use Rattle.payload.specs.Field.{bigEndian};
-ghost use Rattle.sfc6.specs.Paper.{paperPassed};
+ghost use Rattle.sfc6.specs.Paper.{paperPassed, paperRound};
 
 // A request, with the value that it carries.
 pub enum Request {
@@ -71,6 +71,13 @@ pub struct Row {
     pub sub: Subcommand,
     pub value: Value,
     pub answer: Answer,
+}
+
+// What a polling round answers: the frames that it laid, the place after them, and whether one was refused.
+pub struct Round {
+    pub frames: usize,
+    pub end: usize,
+    pub outcome: Checked,
 }
 
 // The bits of a float; of a NaN those of the quiet one.
@@ -399,4 +406,33 @@ pub fn append_request(buffer: &mut [u8], start: usize, address: u8, request: Req
         end = start;
     }
     write_request(address, request, &mut buffer[end..])
+}
+
+// Lays the frames of a polling round one after another from `start` on: the same request to each of the nodes. The first frame that is
+// refused ends the round; those before it stand.
+pub fn poll_round(buffer: &mut [u8], start: usize, nodes: &[u8], request: Request) -> Round
+    ensures { λ r. ⌜ (paperRound r, now (buffer .exit)) ≡ pollRound (now (buffer .entry)) start (now (nodes .entry)) request ⌝ }
+{
+    let mut end = start;
+    let mut i: usize = 0;
+    while i < nodes.len() {
+        match append_request(buffer, end, nodes[i], request) {
+            Written::Done(size) => {
+                end += size;
+                i += 1;
+            }
+            Written::Refused(r) => {
+                return Round {
+                    frames: i,
+                    end: end,
+                    outcome: Checked::Refused(r),
+                };
+            }
+        }
+    }
+    Round {
+        frames: i,
+        end: end,
+        outcome: Checked::Good,
+    }
 }
