@@ -6,3 +6,4 @@ pub mod Laid
 pub mod Order
 pub mod Writing
 pub mod Rounds
+pub mod Reading

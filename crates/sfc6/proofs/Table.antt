@@ -36,7 +36,7 @@ at-least place (suc n) h =
     omega arith
 
 -- the request of a number: the last one, and one that is known
-abbrev last : ℕ → Request
+abbrev pub last : ℕ → Request
 last n = ProductType
 
 past-last : (k : ℕ) → last ≡ getD (drop 20 table) k last

@@ -1,21 +1,24 @@
 -- 01, Commands of the SFC6 family and Refusal numbers: a request on the wire, what is refused of it, and in which order.
-use Prim.Native.Nat.{ℕ, _+_}
-use mathlib.Core.Bool.{Bool}
+use Prim.Native.Nat.{ℕ, _+_, _-_}
+use mathlib.Core.Bool.{Bool, true, false, cond, _&&_}
 use mathlib.Core.List.{List, [], _∷_, _++_}
-use lib.Dec.{ltb}
-use lib.ListN.{length, take, drop}
+use mathlib.Core.Option.{Option, none, some}
+use lib.Dec.{ltb, eqb}
+use lib.ListN.{length, take, drop, getD}
 use lib.Ieee.{binary32, toBits}
 use Rattle.refusal.specs.Refusals.{Numbered, number, Answered, served, refused, inOrder}
 use Rattle.refusal.specs.Room.{emit}
+use Rattle.shdlc.specs.declared.Kind.the-variants as kind
+use Rattle.shdlc.specs.Body.{checkBody}
 use Rattle.shdlc.specs.Frame.{frameOf}
-use Rattle.payload.specs.Field.{bigEndian}
+use Rattle.payload.specs.Field.{big, bigEndian}
 use Rattle.sfc6.specs.declared.Request.{Request}
 use Rattle.sfc6.specs.declared.Subcommand.{Subcommand}
 use Rattle.sfc6.specs.declared.Subcommand.the-variants as sub
 use Rattle.sfc6.specs.declared.Row.{Row}
 use Rattle.sfc6.specs.declared.Value.{Value}
 use Rattle.sfc6.specs.declared.Value.the-variants.{Nothing, Float, U32, Address, Baud}
-use Rattle.sfc6.specs.Commands.{row, outOfRange, badFloat, addressToAll}
+use Rattle.sfc6.specs.Commands.{row, table, outOfRange, badFloat, addressToAll}
 
 -- "Order": a request's own refusals, 12, 13, 10, with which both writing a request and both reply jobs start
 abbrev pub requestChecks : ℕ → Request → List (Bool × Numbered)
@@ -86,3 +89,52 @@ roundFrom request (node ∷ nodes) frames end buffer =
 -- "A polling round lays its frames one after another. Each frame is one call": here a request to each of the nodes
 unfoldable pub pollRound : List ℕ → ℕ → List ℕ → Request → Laid × List ℕ
 pollRound buffer start nodes request = roundFrom request nodes 0 start buffer
+
+-- row 11, "command or subcommand not in the table; subcommand missing": a row is named by its command and, where it has one, by its
+-- subcommand as the first data byte
+unfoldable pub startsWith : Subcommand → List ℕ → Bool
+startsWith sub.Missing payload = true
+startsWith (sub.Byte s) [] = false
+startsWith (sub.Byte s) (b ∷ payload) = eqb b s
+
+unfoldable pub named : ℕ → List ℕ → Row → Bool
+named command payload r = eqb command (r .command) && startsWith (r .sub) payload
+
+-- row 12, "a request's data length not in the table": there are as many data bytes as the row has
+unfoldable pub fitting : ℕ → List ℕ → Row → Bool
+fitting command payload r = named command payload r && eqb (length payload) (length (dataOf r))
+
+-- the first request of a table whose row passes a test
+unfoldable pub first : (Row → Bool) → List (ℕ → Request) → Option (ℕ → Request)
+first test [] = none
+first test (request ∷ requests) = cond (test (row (request 0))) (some request) (first test requests)
+
+-- the number that stands after the subcommand
+unfoldable pub carried : Row → List ℕ → ℕ
+carried r payload = big (drop (length (subBytes (r .sub))) payload)
+
+abbrev pub foundOr : {A B : Type 0} → ℕ → Option A → (A → Answered B) → Answered B
+foundOr n none next = refused (number n)
+foundOr n (some a) next = next a
+
+-- the request that a command and its data are, or 11, or 12
+unfoldable pub typed : ℕ → List ℕ → Answered Request
+typed command payload =
+    foundOr 11 (first (named command payload) table) (λ request.
+    foundOr 12 (first (fitting command payload) table) (λ request.
+    served (request (carried (row (request 0)) payload))))
+
+abbrev pub andThen : {A B : Type 0} → Answered A → (A → Answered B) → Answered B
+andThen (served a) next = next a
+andThen (refused n) next = refused n
+
+-- the data bytes of a body
+abbrev pub payloadOf : List ℕ → List ℕ
+payloadOf body = take (length body - 4) (drop 3 body)
+
+-- "Order": "reading a request 5, 6, 7, 8 over the unstuffed body offered, then 11, 12, 13, 10": its address and the request
+unfoldable pub readRequest : List ℕ → Answered (ℕ × Request)
+readRequest offered =
+    andThen (checkBody kind.Request offered) (λ body.
+    andThen (typed (getD body 1 0) (payloadOf body)) (λ request.
+    checkRequest (getD body 0 0) request))

@@ -1,17 +1,21 @@
 // The typed commands of the SFC6 family: the table, and requests written and read.
+use payload::Field;
+use payload::Width;
 use refusal::Refusal;
 use shdlc::Checked;
+use shdlc::Kind;
 use shdlc::Written;
 ghost use mathlib.Core.Path.{_≡_};
 ghost use Prim.Native.Nat.{_+_, _/_, _%_, _^_, _≤_, _<_, min};
-ghost use lib.ListN.{length};
+ghost use mathlib.Core.Bool.{cond};
+ghost use lib.ListN.{length, take, drop};
 ghost use lib.Ieee.{binary32, toBits, ofBits};
-ghost use Rattle.sfc6.specs.Commands.{withSub, withoutSub, row, requestAt, bauds, member, finite, outOfRange, badFloat, addressToAll};
-ghost use Rattle.sfc6.specs.Requests.{checkRequest, subBytes, valueBytes, dataOf, bodyOf, writeRequest, appendRequest, pollRound};
+ghost use Rattle.sfc6.specs.Commands.{withSub, withoutSub, row, table, requestAt, bauds, member, finite, outOfRange, badFloat, addressToAll};
+ghost use Rattle.sfc6.specs.Requests.{checkRequest, subBytes, valueBytes, dataOf, bodyOf, writeRequest, appendRequest, pollRound, startsWith, named, fitting, first, carried, typed, readRequest};
 ghost use Rattle.refusal.specs.Room.{overlay};
 ghost use Rattle.shdlc.specs.Paper.{paperWritten};
-ghost use Rattle.payload.specs.Field.{bigEndian};
-ghost use Rattle.sfc6.specs.Paper.{paperPassed, paperRound};
+ghost use Rattle.payload.specs.Field.{big, bytesIn, bigEndian};
+ghost use Rattle.sfc6.specs.Paper.{paperPassed, paperRound, paperFound, paperTyped, paperRead};
 
 // A request, with the value that it carries.
 pub enum Request {
@@ -78,6 +82,24 @@ pub struct Round {
     pub frames: usize,
     pub end: usize,
     pub outcome: Checked,
+}
+
+// Where a row stands in the table.
+enum Found {
+    At(usize),
+    Nothing,
+}
+
+// What reading the data of a request answers.
+enum Typed {
+    Known(Request),
+    Refused(Refusal),
+}
+
+// What reading a request answers: its address and the request, or why not.
+pub enum ReadRequest {
+    Done(u8, Request),
+    Refused(Refusal),
 }
 
 // The bits of a float; of a NaN those of the quiet one.
@@ -434,5 +456,113 @@ pub fn poll_round(buffer: &mut [u8], start: usize, nodes: &[u8], request: Reques
         frames: i,
         end: end,
         outcome: Checked::Good,
+    }
+}
+
+// Whether the data start with the subcommand, where there is one.
+fn starts_with(sub: Subcommand, payload: &[u8]) -> bool
+    ensures { λ r. ⌜ r ≡ startsWith sub (now (payload .entry)) ⌝ }
+{
+    match sub {
+        Subcommand::Missing => true,
+        Subcommand::Byte(s) => {
+            if payload.len() == 0 {
+                return false;
+            }
+            payload[0] == s
+        }
+    }
+}
+
+// Whether a row has this command and subcommand and, where that is asked for, as many data bytes.
+fn suits(row: Row, command: u8, payload: &[u8], whole: bool) -> bool
+    ensures { λ r. ⌜ r ≡ cond whole (fitting command (now (payload .entry))) (named command (now (payload .entry))) row ⌝ }
+{
+    let sub = row.sub;
+    if command != row.command {
+        return false;
+    }
+    if !starts_with(sub, payload) {
+        return false;
+    }
+    if whole {
+        return payload.len() == data_size(row);
+    }
+    true
+}
+
+// The first row that suits.
+fn find(command: u8, payload: &[u8], whole: bool) -> Found
+    ensures { λ r. ⌜ paperFound r ≡ first (cond whole (fitting command (now (payload .entry))) (named command (now (payload .entry)))) table ⌝ }
+{
+    let mut i: usize = 0;
+    while i < 21 {
+        if suits(row_of(request_of(i, 0)), command, payload, whole) {
+            return Found::At(i);
+        }
+        i += 1;
+    }
+    Found::Nothing
+}
+
+// The field of a width at a place.
+fn number(payload: &[u8], place: usize, width: Width) -> u32
+    requires { ⌜ length (now payload) ≡ place + bytesIn width ⌝ }
+    ensures { λ r. ⌜ r ≡ big (drop place (now (payload .entry))) ⌝ }
+{
+    match payload::field(payload, place, width) {
+        Field::Value(n, _) => n,
+        Field::Refused(_) => 0,
+    }
+}
+
+// The number that stands after the subcommand.
+fn carried(row: Row, payload: &[u8]) -> u32
+    requires { ⌜ length (now payload) ≡ length (dataOf row) ⌝ }
+    ensures { λ r. ⌜ r ≡ carried row (now (payload .entry)) ⌝ }
+{
+    let sub = row.sub;
+    let value = row.value;
+    let place = sub_size(sub);
+    match value {
+        Value::Nothing => 0,
+        Value::Float(_) => number(payload, place, Width::Four),
+        Value::U32(_) => number(payload, place, Width::Four),
+        Value::Address(_) => number(payload, place, Width::One),
+        Value::Baud(_) => number(payload, place, Width::Four),
+    }
+}
+
+// Reads a command and its data: 11, then 12 for the length.
+fn read_typed(command: u8, payload: &[u8]) -> Typed
+    ensures { λ r. ⌜ paperTyped r ≡ typed command (now (payload .entry)) ⌝ }
+{
+    let Found::At(_) = find(command, payload, false) else {
+        return Typed::Refused(Refusal::UnknownCommand);
+    };
+    let Found::At(place) = find(command, payload, true) else {
+        return Typed::Refused(Refusal::OutOfRange);
+    };
+    let n = carried(row_of(request_of(place, 0)), payload);
+    Typed::Known(request_of(place, n))
+}
+
+// Reads a request from its unstuffed body, checksum included.
+pub fn read_request(body: &[u8]) -> ReadRequest
+    ensures { λ r. ⌜ paperRead r ≡ readRequest (now (body .entry)) ⌝ }
+{
+    if let Checked::Refused(r) = shdlc::check_body(Kind::Request, body) {
+        return ReadRequest::Refused(r);
+    }
+    let end = body.len() - 1;
+    match read_typed(body[1], &body[3..end]) {
+        Typed::Refused(r) => ReadRequest::Refused(r),
+        Typed::Known(request) => {
+            let address = body[0];
+            match check_request(address, request) {
+                Checked::Refused(r) => ReadRequest::Refused(r),
+                Checked::Good => ReadRequest::Done(address, request),
+            }
+        }
     }
 }
