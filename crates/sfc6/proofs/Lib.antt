@@ -7,3 +7,7 @@ pub mod Order
 pub mod Writing
 pub mod Rounds
 pub mod Reading
+pub mod Refusing
+pub mod Written
+pub mod Rewritten
+pub mod ReadBack

@@ -21,11 +21,12 @@ use Rattle.sfc6.specs.Requests.{requestChecks, checkRequest, dataOf, bod
 use Rattle.sfc6.specs.Paper.{paperPassed}
 use Rattle.sfc6.proofs.Order.{first-refuses, then-more}
 
-take-overlay : (out xs : List ℕ) → take (length xs) (overlay out 0 xs) ≡ xs
+pub take-overlay : (out xs : List ℕ) → take (length xs) (overlay out 0 xs) ≡ xs
 unfolding overlay
 take-overlay out xs = take-append-seam xs _
 
-abbrev five : Row → List (Bool × Numbered)
+-- the test of the data's length
+abbrev pub five : Row → List (Bool × Numbered)
 five r = (ltb 255 (length (dataOf r)), number 5) ∷ []
 
 module _ (address : ℕ) (request : Request) (room : List ℕ) {c : Checked} (is : paperPassed (address, request) c ≡ checkRequest address request) where

@@ -1,4 +1,5 @@
 -- The typed commands of the SFC6 family: the table, and requests written and read, in the words of document 01.
 pub mod Commands
 pub mod Requests
+pub mod ReadBack
 pub mod Paper
