@@ -1,17 +1,21 @@
--- A field at a place, by its width, and the two cases of reading it. Assumes nothing.
-use mathlib.Core.Path.{_≡_, sym, subst}
-use mathlib.Core.List.{List}
-use Prim.Native.Nat.{ℕ, _+_, _≤_, _<_}
-use borrow.Author.Tests.{lt-ltb, le-ltb}
-use lib.ListN.{length, take, drop}
+-- Fields at a place: the cases of reading one and of writing one, and that what is written is read back. Assumes nothing.
+use mathlib.Core.Path.{_≡_, sym, ap, subst, _∙_}
+use mathlib.Core.List.{List, _++_}
+use Prim.Native.Nat.{ℕ, _+_, _/_, _^_, _≤_, _<_}
+use native.Mathlib.Omega.{arith}
+use borrow.Author.Tests.{lt-ltb, le-ltb, le-leb, lt-leb}
+use lib.ListN.{length, take, drop, length-append}
+use lib.Seq.{take-at, drop-at, length-take-le}
 use Rattle.refusal.specs.Refusals.{number, served, refused}
 use Rattle.payload.specs.declared.fields.Width.{Width}
-use Rattle.payload.specs.Field.{big, bytesIn, fieldAt}
+use Rattle.refusal.specs.Room.{overlay}
+use Rattle.refusal.proofs.Room.{overlay-then}
+use Rattle.payload.specs.Field.{big, bigEndian, bytesIn, fieldAt, putAt}
+use Rattle.payload.proofs.Big.{length-big-endian, big-of-big-endian, big-endian-split}
 
--- the number of a field whose width is known
-pub value-of : (payload : List ℕ) (place : ℕ) {width known : Width} {n : ℕ} → width ≡ known → n ≡ big (take (bytesIn known) (drop place payload))
-    → n ≡ big (take (bytesIn width) (drop place payload))
-value-of payload place {n = n} e h = subst (λ (w : Width). n ≡ big (take (bytesIn w) (drop place payload))) (sym e) h
+-- what holds at a width that is known
+pub at-width : {A : Type 0} (f : ℕ → A) {width known : Width} {a : A} → width ≡ known → a ≡ f (bytesIn known) → a ≡ f (bytesIn width)
+at-width f {a = a} e h = subst (λ (w : Width). a ≡ f (bytesIn w)) (sym e) h
 
 module _ (payload : List ℕ) (place width : ℕ) where
   pub field-refused : length payload < place + width → fieldAt payload place width ≡ refused (number 12)
@@ -26,3 +30,47 @@ module _ (payload : List ℕ) (place width : ℕ) where
   pub field-served-as : {n size : ℕ} → place + width ≤ length payload → n ≡ big (take width (drop place payload)) → size ≡ width
       → fieldAt payload place width ≡ served (n, place + size)
   field-served-as h e f = rw (e, f) (field-served h)
+
+module _ (room : List ℕ) (place width n : ℕ) where
+  pub put-out-of-range : 256 ^ width ≤ n → putAt room place width n ≡ (refused (number 12), room)
+  unfolding putAt
+  put-out-of-range h = rw (le-leb _ _ h)
+
+  pub put-no-room : n < 256 ^ width → length room < place + width → putAt room place width n ≡ (refused (number 1), room)
+  unfolding putAt
+  put-no-room f h = rw (lt-leb _ _ f, lt-ltb _ _ h)
+
+  pub put-served : n < 256 ^ width → place + width ≤ length room
+      → putAt room place width n ≡ (served (place + width), overlay room place (bigEndian width n))
+  unfolding putAt
+  put-served f h = rw (lt-leb _ _ f, le-ltb _ _ h)
+
+  -- the same, of a count and a room that are known to be these
+  pub put-served-as : {size : ℕ} {after : List ℕ} → n < 256 ^ width → place + width ≤ length room → size ≡ width
+      → after ≡ overlay room place (bigEndian width n) → putAt room place width n ≡ (served (place + size), after)
+  put-served-as f h e g = rw (e, g) (put-served f h)
+
+-- a number written in two parts
+pub put-halves : (room : List ℕ) (place a b n : ℕ) {first last : List ℕ} → place + (a + b) ≤ length room
+    → first ≡ overlay room place (bigEndian a (n / 256 ^ b)) → last ≡ overlay first (place + a) (bigEndian b n)
+    → last ≡ overlay room place (bigEndian (a + b) n)
+put-halves room place a b n h e f =
+    let long : place ≤ length room = omega arith in
+    let next : place + a ≡ place + length (bigEndian a (n / 256 ^ b)) = ap (λ (m : ℕ). place + m) (sym (length-big-endian a (n / 256 ^ b))) in
+    rw (f, e, big-endian-split a b n) (overlay-then room place _ _ (place + a) long next)
+
+-- the bytes of a number, wherever they stand, are read as that number
+pub field-of-bytes : (front back : List ℕ) (place count n : ℕ) → length front ≡ place → n < 256 ^ count
+    → fieldAt (front ++ (bigEndian count n ++ back)) place count ≡ served (n, place + count)
+field-of-bytes front back place count n e f =
+    let l : List ℕ = front ++ (bigEndian count n ++ back) in
+    let long : place + count ≤ length l = simp (length-append, length-big-endian) (omega arith) in
+    let value : big (take count (drop place l)) ≡ n =
+    rw (drop-at front (bigEndian count n ++ back) place e, take-at (bigEndian count n) back count (length-big-endian count n)) (big-of-big-endian count n f) in
+    field-served l place count long ∙ rw value
+
+-- what is written is read back
+pub field-of-put : (room : List ℕ) (place width n : ℕ) → n < 256 ^ width → place + width ≤ length room
+    → fieldAt (overlay room place (bigEndian width n)) place width ≡ served (n, place + width)
+unfolding overlay
+field-of-put room place width n f h = field-of-bytes (take place room) _ place width n (length-take-le place room (omega arith)) f

@@ -2,7 +2,7 @@
 use mathlib.Core.Path.{_≡_, refl, sym, ap, _∙_}
 use mathlib.Core.List.{List, [], _∷_, _++_}
 use Prim.Native.Nat.{ℕ, zero, suc, _+_, _*_, _/_, _%_, _^_, _≤_, _<_}
-use native.Mathlib.Nat.{pow-succ', pow-zero, zero-mul, zero-add, add-mul, mul-assoc, add-assoc, one-le-pow, mod-one, mod-lt, mod-eq-of-lt, mul-add-div-right, mul-add-mod-self-right}
+use native.Mathlib.Nat.{pow-succ', pow-zero, zero-mul, zero-add, suc-add, mul-comm, add-mul, mul-assoc, add-assoc, one-le-pow, mod-one, mod-lt, mod-eq-of-lt, div-div-eq-div-mul, mul-add-div-right, mul-add-mod-self-right}
 use native.Mathlib.Omega.{arith}
 use lib.Arith.{digits-lt, digits-div, mod-mul}
 use lib.ListN.{length, getD, take, drop, length-append, length-drop}
@@ -69,6 +69,14 @@ pub big-split : (l : List ℕ) (place a b : ℕ) → place + (a + b) ≤ length 
 big-split l place a b h =
     let long : b ≤ length (drop (place + a) l) = simp length-drop (omega arith) in
     rw (take-add a b (drop place l), big-append (take a (drop place l)) (take b (drop a (drop place l))), drop-drop a place l, length-take-le b (drop (place + a) l) long)
+
+-- the bytes of a number are those of its high part and then those of its low part
+pub big-endian-split : (a b n : ℕ) → bigEndian (a + b) n ≡ bigEndian a (n / 256 ^ b) ++ bigEndian b n
+unfolding bigEndian
+big-endian-split zero b n = rw zero-add
+big-endian-split (suc a) b n =
+    let e : 256 ^ (a + b) ≡ 256 ^ b * 256 ^ a = pow-add 256 a b ∙ mul-comm (256 ^ a) (256 ^ b) in
+    rw (suc-add a b, e, ← div-div-eq-div-mul n (256 ^ b) (256 ^ a), big-endian-split a b n)
 
 pub big-one : (l : List ℕ) (place : ℕ) → place < length l → big (take 1 (drop place l)) ≡ getD l place 0
 unfolding big

@@ -13,3 +13,9 @@ pub enum Field {
     Value(u32, usize),
     Refused(Refusal),
 }
+
+// What writing a field answers: the place after it, or why not.
+pub enum Placed {
+    Next(usize),
+    Refused(Refusal),
+}
