@@ -1,12 +1,17 @@
--- A number, and the body of a request, laid down byte by byte. Assumes nothing.
+-- A number, and the body of a request, laid down part by part. Assumes nothing.
 use mathlib.Core.Path.{_≡_, refl, sym, ap, subst, _∙_}
 use mathlib.Core.List.{List, [], _∷_, _++_}
-use Prim.Native.Nat.{ℕ, zero, suc, _+_, _-_, _/_, _%_, _^_, _≤_, _<_}
+use Prim.Native.Nat.{ℕ, _+_, _^_, _≤_, _<_}
 use native.Mathlib.Omega.{arith}
 use lib.ListN.{length, set, length-append}
+use Rattle.refusal.specs.declared.Refusal.{Refusal}
+use Rattle.refusal.specs.Refusals.{Answered, served}
 use Rattle.refusal.specs.Room.{overlay}
 use Rattle.refusal.proofs.Room.{overlay-nothing, overlay-then, length-overlay, set-overlay, set-two}
-use Rattle.payload.specs.Field.{bigEndian}
+use Rattle.payload.specs.Field.{bigEndian, putAt, paperPlaced}
+use Rattle.payload.specs.declared.fields.Placed.{Placed}
+use Rattle.payload.specs.declared.fields.Placed.the-variants.{Next, Refused}
+use Rattle.payload.proofs.At.{put-served}
 use Rattle.payload.proofs.Big.{length-big-endian}
 use Rattle.sfc6.specs.declared.Subcommand.{Subcommand}
 use Rattle.sfc6.specs.declared.Subcommand.the-variants as sub
@@ -14,23 +19,21 @@ use Rattle.sfc6.specs.declared.Value.{Value}
 use Rattle.sfc6.specs.declared.Value.the-variants.{Nothing, Float, U32, Address, Baud}
 use Rattle.sfc6.specs.declared.Row.{Row}
 use Rattle.sfc6.specs.Requests.{subBytes, valueBytes, dataOf, bodyOf}
+use Rattle.sfc6.proofs.Order.{never}
 
--- the byte at the front of a number
-front : (k n : ℕ) → 0 < k → bigEndian k n ≡ n / 256 ^ (k - 1) % 256 ∷ bigEndian (k - 1) n
-unfolding bigEndian
-front zero n h = absurd (omega arith)
-front (suc k) n h = let e : suc k - 1 ≡ k = omega arith in rw e
+-- a number that fits its bytes is put into room that is there
+module _ (out : List ℕ) (place width n : ℕ) (small : n < 256 ^ width) (room : place + width ≤ length out) (p : Placed) (w : List ℕ)
+    (is : (paperPlaced p, w) ≡ putAt out place width n) where
+  put : _≡_ {A = Answered ℕ × List ℕ} (paperPlaced p, w) (served (place + width), overlay out place (bigEndian width n))
+  put = is ∙ put-served out place width n small room
 
-pub number-step : (out : List ℕ) (o k n b : ℕ) → 0 < k → o < length out → b ≡ n / 256 ^ (k - 1) % 256
-    → overlay (set out o b) (o + 1) (bigEndian (k - 1) n) ≡ overlay out o (bigEndian k n)
-number-step out o k n b h i e =
-    rw (e, set-overlay out o (n / 256 ^ (k - 1) % 256) i, front k n h)
-    (overlay-then out o (n / 256 ^ (k - 1) % 256 ∷ []) (bigEndian (k - 1) n) (o + 1) (omega arith) (omega arith))
+  pub put-there : (next : ℕ) → p ≡ Next next → (next ≡ place + width) × (w ≡ overlay out place (bigEndian width n))
+  put-there next e =
+      let f : served next ≡ served (place + width) = sym (ap paperPlaced e) ∙ ap (λ (o : Answered ℕ × List ℕ). o .0) put in
+      (cc, ap (λ (o : Answered ℕ × List ℕ). o .1) put)
 
-pub number-done : (out : List ℕ) (o k n : ℕ) → k ≤ 0 → overlay out o (bigEndian k n) ≡ out
-unfolding bigEndian
-number-done out o zero n h = overlay-nothing out o
-number-done out o (suc k) n h = absurd (omega arith)
+  pub put-not : {A : Type 0} (why : Refusal) → p ≡ Refused why → A
+  put-not why e = never (sym (sym (ap paperPlaced e) ∙ ap (λ (o : Answered ℕ × List ℕ). o .0) put))
 
 -- a value of known kind, whose bytes are those of a number
 module _ {value known : Value} (is : value ≡ known) where

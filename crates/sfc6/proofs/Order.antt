@@ -6,7 +6,7 @@ use mathlib.Core.List.{List, [], _∷_, _++_}
 use Prim.Native.Nat.{ℕ}
 use native.Mathlib.Omega.{arith}
 use Rattle.refusal.specs.Refusals.{Numbered, Answered, served, refused, inOrder}
-use Rattle.sfc6.specs.Requests.{andThen}
+use Rattle.sfc6.specs.Reading.{andThen}
 
 -- an answer does not serve and refuse
 pub never : {A B : Type 0} {a : A} {n : Numbered} → served a ≡ refused n → B

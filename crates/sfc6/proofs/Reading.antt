@@ -31,7 +31,8 @@ use Rattle.sfc6.specs.declared.Found.the-variants.{At, Nothing as Missin
 use Rattle.sfc6.specs.declared.Typed.{Typed}
 use Rattle.sfc6.specs.declared.Typed.the-variants as answered
 use Rattle.sfc6.specs.Commands.{row, table, requestAt}
-use Rattle.sfc6.specs.Requests.{subBytes, valueBytes, dataOf, startsWith, named, fitting, first, carried, typed, andThen, checkRequest, readRequest}
+use Rattle.sfc6.specs.Requests.{subBytes, valueBytes, dataOf, checkRequest}
+use Rattle.sfc6.specs.Reading.{startsWith, named, fitting, first, carried, typed, andThen, readRequest}
 use Rattle.sfc6.specs.Paper.{paperPassed, paperFound, paperTyped}
 use Rattle.sfc6.proofs.Order.{never}
 use Rattle.sfc6.proofs.Table.{last}

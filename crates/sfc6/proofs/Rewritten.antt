@@ -25,7 +25,8 @@ use Rattle.sfc6.specs.declared.Subcommand.{Subcommand}
 use Rattle.sfc6.specs.declared.Subcommand.the-variants as sub
 use Rattle.sfc6.specs.declared.Row.{Row}
 use Rattle.sfc6.specs.Commands.{row, table, finite, badFloat}
-use Rattle.sfc6.specs.Requests.{requestChecks, checkRequest, subBytes, valueBytes, dataOf, bodyOf, lay, writeRequest, startsWith, named, fitting, first, carried, foundOr, typed, payloadOf, andThen, readRequest}
+use Rattle.sfc6.specs.Requests.{requestChecks, checkRequest, subBytes, valueBytes, dataOf, bodyOf, lay, writeRequest}
+use Rattle.sfc6.specs.Reading.{startsWith, named, fitting, first, carried, foundOr, typed, payloadOf, andThen, readRequest}
 use Rattle.sfc6.proofs.Order.{never, serves-it, and-then-served}
 use Rattle.sfc6.proofs.Checks.{passed-float}
 use Rattle.sfc6.proofs.Reading.{first-passes, both, fits-length}

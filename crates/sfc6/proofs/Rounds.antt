@@ -15,7 +15,8 @@ use Rattle.shdlc.specs.declared.Written.the-variants.{Done, Refused}
 use Rattle.shdlc.specs.Paper.{paperWritten}
 use Rattle.shdlc.proofs.Rest.{rest-here, rest-end}
 use Rattle.sfc6.specs.declared.Request.{Request}
-use Rattle.sfc6.specs.Requests.{frameToWrite, lay, writeRequest, appendRequest, Laid, roundOn, roundFrom}
+use Rattle.sfc6.specs.Requests.{frameToWrite, lay, writeRequest}
+use Rattle.sfc6.specs.Rounds.{appendRequest, Laid, roundOn, roundFrom}
 use Rattle.sfc6.proofs.Order.{never}
 
 -- what was written fitted

@@ -17,7 +17,8 @@ use Rattle.shdlc.specs.Frame.{frameOf, writeFrame}
 use Rattle.sfc6.specs.declared.Request.{Request}
 use Rattle.sfc6.specs.declared.Row.{Row}
 use Rattle.sfc6.specs.Commands.{row}
-use Rattle.sfc6.specs.Requests.{requestChecks, checkRequest, dataOf, bodyOf, frameToWrite, lay, writeRequest, appendRequest}
+use Rattle.sfc6.specs.Requests.{requestChecks, checkRequest, dataOf, bodyOf, frameToWrite, lay, writeRequest}
+use Rattle.sfc6.specs.Rounds.{appendRequest}
 use Rattle.sfc6.specs.Paper.{paperPassed}
 use Rattle.sfc6.proofs.Order.{first-refuses, then-more}
 

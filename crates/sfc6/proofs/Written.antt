@@ -26,7 +26,8 @@ use Rattle.sfc6.specs.declared.Request.{Request}
 use Rattle.sfc6.specs.declared.Request.the-variants.{GetSetpoint, SetSetpoint, MeasuredValue, GetGain, SetGain, GetInitStep, SetInitStep, RawFlow, RawConductivity, Temperature, NumberOfCalibrations, Validity, FullScale, GetCalibration, SetCalibration, VolatileCalibration, GetAddress, SetAddress, GetBaud, SetBaud, ProductType}
 use Rattle.sfc6.specs.declared.Row.{Row}
 use Rattle.sfc6.specs.Commands.{row, table}
-use Rattle.sfc6.specs.Requests.{requestChecks, checkRequest, dataOf, bodyOf, frameToWrite, lay, writeRequest, startsWith, named, fitting, first, carried, typed, payloadOf, readRequest}
+use Rattle.sfc6.specs.Requests.{requestChecks, checkRequest, dataOf, bodyOf, frameToWrite, lay, writeRequest}
+use Rattle.sfc6.specs.Reading.{startsWith, named, fitting, first, carried, typed, payloadOf, readRequest}
 use Rattle.sfc6.specs.ReadBack.{Fits}
 use Rattle.sfc6.proofs.Order.{never, first-refuses, then-more, passes-or-refuses}
 use Rattle.sfc6.proofs.Laid.{data-short}

@@ -19,7 +19,8 @@ use Rattle.sfc6.specs.declared.Request.{Request}
 use Rattle.sfc6.specs.declared.Value.{Value}
 use Rattle.sfc6.specs.declared.Value.the-variants.{Nothing, Float, U32, Address, Baud}
 use Rattle.sfc6.specs.Commands.{row, outOfRange, badFloat, addressToAll}
-use Rattle.sfc6.specs.Requests.{bodyOf, writeRequest, readRequest}
+use Rattle.sfc6.specs.Requests.{bodyOf, writeRequest}
+use Rattle.sfc6.specs.Reading.{readRequest}
 
 -- what every value of the code's type has: a number fits it, and a float is one of single precision
 abbrev pub Fits : Value → Type 0

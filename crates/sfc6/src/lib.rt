@@ -1,5 +1,6 @@
 // The typed commands of the SFC6 family: the table, and requests written and read.
 use payload::Field;
+use payload::Placed;
 use payload::Width;
 use refusal::Refusal;
 use shdlc::Checked;
@@ -11,7 +12,9 @@ ghost use mathlib.Core.Bool.{cond};
 ghost use lib.ListN.{length, take, drop};
 ghost use lib.Ieee.{binary32, toBits, ofBits};
 ghost use Rattle.sfc6.specs.Commands.{withSub, withoutSub, row, table, requestAt, bauds, member, finite, outOfRange, badFloat, addressToAll};
-ghost use Rattle.sfc6.specs.Requests.{checkRequest, subBytes, valueBytes, dataOf, bodyOf, writeRequest, appendRequest, pollRound, startsWith, named, fitting, first, carried, typed, readRequest};
+ghost use Rattle.sfc6.specs.Requests.{checkRequest, subBytes, valueBytes, dataOf, bodyOf, writeRequest};
+ghost use Rattle.sfc6.specs.Rounds.{appendRequest, pollRound};
+ghost use Rattle.sfc6.specs.Reading.{startsWith, named, fitting, first, carried, typed, readRequest};
 ghost use Rattle.refusal.specs.Room.{overlay};
 ghost use Rattle.shdlc.specs.Paper.{paperWritten};
 ghost use Rattle.payload.specs.Field.{big, bytesIn, bigEndian};
@@ -297,36 +300,19 @@ pub fn check_request(address: u8, request: Request) -> Checked
     Checked::Good
 }
 
-// Byte `k` of a number, from the least significant.
-fn byte_of(n: u32, k: usize) -> u8
-    requires { ⌜ k < 4 ⌝ }
-    ensures { λ r. ⌜ r ≡ n / 256 ^ k % 256 ⌝ }
+// Writes a number in so many bytes at a place, and answers the place after it.
+fn put_number(out: &mut [u8], place: usize, n: u32, width: Width) -> usize
+    requires { ⌜ (n < 256 ^ bytesIn width) × (place + bytesIn width ≤ length (now out)) ⌝ }
+    ensures { λ r. ⌜ (r ≡ place + bytesIn width) × (now (out .exit) ≡ overlay (now (out .entry)) place (bigEndian (bytesIn width) n)) ⌝ }
 {
-    match k {
-        0 => (n % 256) as u8,
-        1 => (n / 0x100 % 256) as u8,
-        2 => (n / 0x1_0000 % 256) as u8,
-        _ => (n / 0x100_0000 % 256) as u8,
+    match payload::put(out, place, n, width) {
+        Placed::Next(next) => next,
+        Placed::Refused(_) => place,
     }
-}
-
-// Writes the last `count` bytes of a number, the most significant first, and answers the place after them.
-fn put_number(out: &mut [u8], place: usize, count: usize, n: u32) -> usize
-    requires { ⌜ (count ≤ 4) × (place + count ≤ length (now out)) ⌝ }
-    ensures { λ r. ⌜ (r ≡ place + count) × (now (out .exit) ≡ overlay (now (out .entry)) place (bigEndian count n)) ⌝ }
-{
-    let mut o = place;
-    let mut k = count;
-    while 0 < k {
-        k -= 1;
-        out[o] = byte_of(n, k);
-        o += 1;
-    }
-    o
 }
 
 fn wide(b: u8) -> u32
-    ensures { λ r. ⌜ r ≡ b ⌝ }
+    ensures { λ r. ⌜ (r ≡ b) × (r < 256) ⌝ }
 {
     b as u32
 }
@@ -337,10 +323,10 @@ fn put_value(out: &mut [u8], place: usize, value: Value) -> usize
 {
     match value {
         Value::Nothing => place,
-        Value::Float(x) => put_number(out, place, 4, bits_of(x)),
-        Value::U32(n) => put_number(out, place, 4, n),
-        Value::Address(a) => put_number(out, place, 1, wide(a)),
-        Value::Baud(rate) => put_number(out, place, 4, rate),
+        Value::Float(x) => put_number(out, place, bits_of(x), Width::Four),
+        Value::U32(n) => put_number(out, place, n, Width::Four),
+        Value::Address(a) => put_number(out, place, wide(a), Width::One),
+        Value::Baud(rate) => put_number(out, place, rate, Width::Four),
     }
 }
 
@@ -505,12 +491,12 @@ fn find(command: u8, payload: &[u8], whole: bool) -> Found
     Found::Nothing
 }
 
-// The field of a width at a place.
+// The number of a width that ends the data.
 fn number(payload: &[u8], place: usize, width: Width) -> u32
     requires { ⌜ length (now payload) ≡ place + bytesIn width ⌝ }
     ensures { λ r. ⌜ r ≡ big (drop place (now (payload .entry))) ⌝ }
 {
-    match payload::field(payload, place, width) {
+    match payload::number_at(payload, place, width) {
         Field::Value(n, _) => n,
         Field::Refused(_) => 0,
     }

@@ -5,7 +5,7 @@ use Prim.Native.Nat.{_-_, _≤_, _<_}
 use native.Mathlib.Omega.{arith}
 use lib.ListN.{drop}
 use Rattle.sfc6.specs.Commands.{table}
-use Rattle.sfc6.specs.Requests.{first}
+use Rattle.sfc6.specs.Reading.{first}
 use Rattle.sfc6.proofs.Reading.{Suits, table-found, table-passed, table-ended}
 use Rattle.sfc6.proofs.find.Statement.{statement}
 use Rattle.sfc6.proofs.find.Tie as tie

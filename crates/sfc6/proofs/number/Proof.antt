@@ -9,12 +9,12 @@ use Rattle.sfc6.proofs.number.Tie as tie
 returns : tie.Need-returns
 returns c =
     let f = c .before .before .before in
-    field-read _ _ _ (f .before .before .pre) _ _ (sym (ap paperField (c .before .n .given .1)) ∙ f .field .ensures)
+    field-read _ _ _ (f .before .before .pre) _ _ (sym (ap paperField (c .before .n .given .1)) ∙ f .number-at .ensures)
 
 returns-2 : tie.Need-returns-2
 returns-2 c =
     let f = c .before .before in
-    field-there _ _ _ (f .before .before .pre) _ (sym (ap paperField (c .enum-told .given .1)) ∙ f .field .ensures)
+    field-there _ _ _ (f .before .before .pre) _ (sym (ap paperField (c .enum-told .given .1)) ∙ f .number-at .ensures)
 
 pub number-spec : {M : Type 1} → statement M
 number-spec =

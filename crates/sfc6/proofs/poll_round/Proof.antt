@@ -4,7 +4,7 @@ use mathlib.Core.Path.{_≡_, refl, sym, _∙_}
 use Prim.Native.Nat.{_-_, _^_, _≤_, _<_}
 use native.Mathlib.Omega.{arith}
 use lib.ListN.{length, drop}
-use Rattle.sfc6.specs.Requests.{roundFrom, pollRound}
+use Rattle.sfc6.specs.Rounds.{roundFrom, pollRound}
 use Rattle.sfc6.proofs.Rounds.{frame-fits, round-laid, round-stopped, round-over}
 use Rattle.sfc6.proofs.poll_round.Statement.{statement}
 use Rattle.sfc6.proofs.poll_round.Tie as tie

@@ -1,8 +1,7 @@
 -- `sfc6::put_value` meets its contract: each arm knows which value it is. Assumes nothing.
 use borrow.Author.Needs.{needs}
 use native.Mathlib.Omega.{arith}
-use mathlib.Core.Path.{sym, refl}
-use Rattle.refusal.proofs.Room.{overlay-nothing}
+use mathlib.Core.Path.{refl}
 use Rattle.payload.specs.Field.{bigEndian}
 use Rattle.sfc6.proofs.Laid.{value-room, value-put, value-none}
 use Rattle.sfc6.proofs.put_value.Statement.{statement}
@@ -30,6 +29,6 @@ put-value-spec =
     (λ c. search needs)
     (λ c. let p = c .before .before in let t = p .before .before .before in value-put (t .value2 .given .1) 4 _ _ _ _ _ _ refl refl (p .put-number2 .ensures))
     (λ c. search needs)
-    (λ c. let p = c .before .before in let t = p .before .before .before .before in value-put (t .value3 .given .1) 1 _ _ _ _ _ _ (p .before .wide .ensures) refl (p .put-number3 .ensures))
+    (λ c. let p = c .before .before in let t = p .before .before .before .before in value-put (t .value3 .given .1) 1 _ _ _ _ _ _ (p .before .wide .ensures .0) refl (p .put-number3 .ensures))
     (λ c. search needs)
     (λ c. let p = c .before .before in let t = p .before .before .before in value-put (t .value4 .given .1) 4 _ _ _ _ _ _ refl refl (p .put-number4 .ensures)))

@@ -1,6 +1,6 @@
 -- `sfc6::starts_with` meets its contract. Assumes nothing.
 use borrow.Author.Needs.{needs}
-use Rattle.sfc6.specs.Requests.{startsWith}
+use Rattle.sfc6.specs.Reading.{startsWith}
 use Rattle.sfc6.proofs.Reading.{starts-empty, starts-byte, starts-known}
 use Rattle.sfc6.proofs.starts_with.Statement.{statement}
 use Rattle.sfc6.proofs.starts_with.Tie as tie
