@@ -394,13 +394,13 @@ pub fn write_request(address: u8, request: Request, out: &mut [u8]) -> Written
     if let Checked::Refused(r) = check_request(address, request) {
         return Written::Refused(r);
     }
-    let row = row_of(request);
-    let size = data_size(row);
+    let asked = row_of(request);
+    let size = data_size(asked);
     if 255 < size {
         return Written::Refused(Refusal::BodyTooLong);
     }
     let mut body = [0u8; 8];
-    let end = put_body(&mut body, address, row, size);
+    let end = put_body(&mut body, address, asked, size);
     shdlc::write_frame(&body[..end], out)
 }
 
