@@ -6,7 +6,7 @@ use mathlib.Core.Bool.{cond}
 use lib.Dec.{eqb}
 use Rattle.refusal.specs.declared.Refusal.{Refusal}
 use Rattle.refusal.specs.declared.Refusal.the-variants.{NoRoom, BadRecord, BadEscape, BareControl, BodyTooLong, BodyTooShort, WrongLength, WrongChecksum, CutBySilence, AddressBroadcast, UnknownCommand, OutOfRange, BadFloat, ForeignReply, DeviceError, BadWordCount, WrongCrc, BadScale}
-use Rattle.refusal.specs.Refusals.{Numbered, number, _carrying_, paper}
+use Rattle.refusal.specs.Refusals.{Numbered, number, _carrying_, paper, Answered, served, refused}
 
 -- the refusal of the number at the list's place; the last of the list past its end
 nth : List Refusal → ℕ → Refusal
@@ -62,3 +62,7 @@ back-paper BadScale = refl
 
 pub paper-one-to-one : (r s : Refusal) → paper r ≡ paper s → r ≡ s
 paper-one-to-one r s e = sym (back-paper r) ∙ ap back e ∙ back-paper s
+
+-- the same inside an answer
+pub refused-one-to-one : {A : Type 0} (r s : Refusal) → _≡_ {A = Answered A} (refused (paper r)) (refused (paper s)) → r ≡ s
+refused-one-to-one r s e = paper-one-to-one r s (let z : paper r ≡ paper s = cc in z)

@@ -1,6 +1,6 @@
 -- The laws of the definitions in specs/, a file for each subject.
-pub mod Rest
 pub mod Stuffing
 pub mod Body
 pub mod Frame
 pub mod Stream
+pub mod OneToOne

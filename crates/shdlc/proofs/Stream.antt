@@ -19,7 +19,7 @@ use Rattle.shdlc.specs.Stream.{Event, byte, mark, Item, judgeBody, judge
 use Rattle.shdlc.proofs.Stuffing.{byte-short, unstuff-stuff}
 
 -- the place after a stream
-pub placeFrom : Place → List Event → Place
+unfoldable pub placeFrom : Place → List Event → Place
 placeFrom place [] = place
 placeFrom place (event ∷ events) = placeFrom (next place event) events
 
@@ -83,7 +83,7 @@ unfolding gain
 closing kind [] h = absurd (omega arith)
 closing kind (b ∷ stretch) h = refl
 
-map-append : (xs ys : List ℕ) → map byte (xs ++ ys) ≡ map byte xs ++ map byte ys
+pub map-append : (xs ys : List ℕ) → map byte (xs ++ ys) ≡ map byte xs ++ map byte ys
 map-append [] ys = refl
 map-append (x ∷ xs) ys = ap (λ (l : List Event). byte x ∷ l) (map-append xs ys)
 

@@ -10,7 +10,7 @@ use borrow.Author.Tests.{eqb-true}
 use lib.ListN.{length, getD, drop, length-append}
 use Rattle.refusal.specs.Refusals.{Answered, served, refused}
 use Rattle.shdlc.specs.Stuffing.{escapes, rightOf, leftOf, sent, stuffByte, stuff, isControl, prepend, meant, unstuff, unstuffEscaped}
-use Rattle.shdlc.proofs.Rest.{rest-here}
+use Rattle.refusal.proofs.Rest.{rest-here}
 
 -- how a byte is sent, from its row of the table
 pub sent-as : (b : ℕ) {row : Option ℕ} → row ≡ rightOf escapes b → stuffByte b ≡ sent b row

@@ -6,7 +6,7 @@ use Prim.Native.Nat.{ℕ, _+_, _-_, _%_, _≤_, _<_}
 use native.Mathlib.Omega.{arith}
 use lib.ListN.{length, drop}
 use Rattle.shdlc.specs.Checksum.{sum, checksumOf}
-use Rattle.shdlc.proofs.Rest.{rest-here, rest-end}
+use Rattle.refusal.proofs.Rest.{rest-here, rest-end}
 use Rattle.shdlc.proofs.Body.{sum-step}
 use Rattle.shdlc.proofs.checksum.Statement.{statement}
 use Rattle.shdlc.proofs.checksum.Tie as tie

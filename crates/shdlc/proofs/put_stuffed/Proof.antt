@@ -8,7 +8,7 @@ use lib.ListN.{length, drop}
 use Rattle.refusal.specs.Room.{overlay}
 use Rattle.refusal.proofs.Room.{overlay-nothing, overlay-more}
 use Rattle.shdlc.specs.Stuffing.{stuff}
-use Rattle.shdlc.proofs.Rest.{rest-end}
+use Rattle.refusal.proofs.Rest.{rest-end}
 use Rattle.shdlc.proofs.Stuffing.{stuff-nothing, stuff-here, length-here}
 use Rattle.shdlc.proofs.put_stuffed.Statement.{statement}
 use Rattle.shdlc.proofs.put_stuffed.Tie as tie

@@ -5,7 +5,7 @@ use Prim.Native.Nat.{ℕ, _+_, _-_, _≤_, _<_}
 use native.Mathlib.Omega.{arith}
 use lib.ListN.{length, drop}
 use Rattle.shdlc.specs.Stuffing.{stuff}
-use Rattle.shdlc.proofs.Rest.{rest-end}
+use Rattle.refusal.proofs.Rest.{rest-end}
 use Rattle.shdlc.proofs.Stuffing.{stuff-short, length-here}
 use Rattle.shdlc.proofs.stuffed_len.Statement.{statement}
 use Rattle.shdlc.proofs.stuffed_len.Tie as tie

@@ -1,0 +1,2 @@
+-- The program's lines of text.
+pub mod Text

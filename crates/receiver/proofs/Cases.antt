@@ -1,0 +1,139 @@
+-- The cases of the models, each by the tests that lead to it. Assumes nothing.
+use Prim.Native.Nat.{ℕ, _+_, _<_, _≤_}
+use native.Mathlib.Omega.{arith}
+use mathlib.Core.Path.{_≡_, refl, sym, ap, _∙_}
+use mathlib.Core.Bool.{Bool, true, false, cond, not, _&&_, false≢true}
+use mathlib.Core.List.{List, [], _∷_}
+use borrow.Author.Tests.{ltb-false, lt-ltb, le-ltb, eqb-true}
+use lib.Dec.{ltb, eqb}
+use lib.ListN.{length, take}
+use Rattle.refusal.specs.Refusals.{Numbered, number, Answered, served, refused}
+use Rattle.refusal.specs.Room.{overlay}
+use Rattle.refusal.proofs.Order.{refused-not-served, passed}
+use Rattle.shdlc.specs.declared.Kind.{Kind}
+use Rattle.shdlc.specs.Body.{checkBody}
+use Rattle.shdlc.specs.Stream.{Item}
+use Rattle.receiver.specs.declared.Mode.{Mode}
+use Rattle.receiver.specs.declared.Mode.the-variants.{Outside, Plain, Escaped, BadEscape, BareControl}
+use Rattle.receiver.specs.declared.Receiver.{Receiver}
+use Rattle.receiver.specs.declared.Fed.{Fed}
+use Rattle.receiver.specs.Record.{Record, held, outsideOf, lengthInRange, inRange, opened, silenced, pending, itemIn, itemOf, nextByte}
+use Rattle.receiver.specs.Calls.{Said, nothing, gave, Outcome, saidOf, bufferOf, Scan, paperFed, refusedCall, completed, unfinished, closes, scanFrom, fedBy, feedOf, silenceOf}
+
+-- a test of the code that is negated
+pub not-true : (t : Bool) → not t ≡ true → t ≡ false
+not-true true h = sym h
+not-true false h = refl
+
+pub not-false : (t : Bool) → not t ≡ false → t ≡ true
+not-false true h = refl
+not-false false h = sym h
+
+-- only a stretch of at most 260 bytes is a frame
+pub frame-short : (mode : Mode) (kind : Kind) (n : ℕ) (store body : List ℕ) → itemIn mode kind n store ≡ served body → n ≤ 260
+frame-short Outside kind n store body e = absurd (refused-not-served e)
+frame-short Plain kind n store body e =
+    ltb-false 260 n (passed (ltb 260 n) (number 5) (checkBody kind (take n store)) body e .0)
+frame-short Escaped kind n store body e = absurd (refused-not-served e)
+frame-short BadEscape kind n store body e = absurd (refused-not-served e)
+frame-short BareControl kind n store body e = absurd (refused-not-served e)
+
+-- a record within its ranges has its store
+pub range-size : (r : Record) → inRange r ≡ true → length (r .store) ≡ 260
+range-size r h = go (eqb (length (r .store)) 260) refl h
+  where
+    go : (t : Bool) → eqb (length (r .store)) 260 ≡ t → (t && lengthInRange (r .mode) (r .len)) ≡ true → length (r .store) ≡ 260
+    go true e g = eqb-true _ _ e
+    go false e g = absurd (false≢true g)
+
+-- a feeding call
+module _ (r : Record) (piece buffer : List ℕ) where
+  pub feed-range : inRange r ≡ false → feedOf r piece buffer ≡ refusedCall 2 r buffer
+  unfolding feedOf
+  feed-range h = rw h
+
+  pub feed-room : inRange r ≡ true → length buffer < 260 → feedOf r piece buffer ≡ refusedCall 1 r buffer
+  unfolding feedOf
+  feed-room h g = rw (h, lt-ltb (length buffer) 260 g)
+
+  pub feed-scan : inRange r ≡ true → 260 ≤ length buffer → feedOf r piece buffer ≡ fedBy (scanFrom 0 r piece) buffer
+  unfolding feedOf
+  feed-scan h g = rw (h, le-ltb (length buffer) 260 g)
+
+  pub feed-open : (s : Scan) → inRange r ≡ true → 260 ≤ length buffer → s ≡ scanFrom 0 r piece → s .closed ≡ false
+      → feedOf r piece buffer ≡ unfinished (s .before) (s .taken) buffer
+  feed-open s h g e still = feed-scan h g ∙ ap (λ (x : Scan). fedBy x buffer) (sym e) ∙ rw still
+
+  pub feed-closed : (s : Scan) → inRange r ≡ true → 260 ≤ length buffer → s ≡ scanFrom 0 r piece → s .closed ≡ true
+      → feedOf r piece buffer ≡ completed (s .before) (s .taken) buffer
+  feed-closed s h g e closed = feed-scan h g ∙ ap (λ (x : Scan). fedBy x buffer) (sym e) ∙ rw closed
+
+-- a mark
+abbrev pub quiet : Record → Said → Outcome
+quiet r said = record { leaves = silenced r; result = record { said = said; taken = 0; buffer = [] } }
+
+-- the same from the struct that the code makes
+pub quiet-left : (x : Receiver) (r : Record) (said : Said) → x ≡ outsideOf (r .kind)
+    → _≡_ {A = Outcome} (record { leaves = held x (r .store); result = record { said = said; taken = 0; buffer = [] } }) (quiet r said)
+quiet-left x r said e = ap (λ (y : Receiver). record { leaves = held y (r .store); result = record { said = said; taken = 0; buffer = [] } }) e
+
+module _ (r : Record) where
+  pub silence-range : inRange r ≡ false → silenceOf r ≡ refusedCall 2 r []
+  unfolding silenceOf
+  silence-range h = rw h
+
+  pub silence-said : inRange r ≡ true → silenceOf r ≡ quiet r (cond (pending r) (gave (refused (number 9))) nothing)
+  unfolding silenceOf
+  silence-said h = rw h
+
+  pub silence-cut : inRange r ≡ true → pending r ≡ true → silenceOf r ≡ quiet r (gave (refused (number 9)))
+  silence-cut h p = silence-said h ∙ rw p
+
+  pub silence-idle : inRange r ≡ true → pending r ≡ false → silenceOf r ≡ quiet r nothing
+  silence-idle h p = silence-said h ∙ rw p
+
+abbrev shown : Record → ℕ → List ℕ → Item → Outcome
+shown r taken buffer item = record { leaves = opened r; result = record { said = saidOf item; taken = taken; buffer = bufferOf item buffer } }
+
+-- an item completed, by what the code's judgement says of it
+module _ (r : Record) (taken : ℕ) (buffer : List ℕ) where
+  pub completed-frame : (body : List ℕ) → itemOf r ≡ served body
+      → completed r taken buffer ≡ record { leaves = opened r; result = record { said = gave (served (length body)); taken = taken; buffer = overlay buffer 0 body } }
+  completed-frame body e = ap (shown r taken buffer) e
+
+  pub completed-refused : (n : Numbered) → itemOf r ≡ refused n
+      → completed r taken buffer ≡ record { leaves = opened r; result = record { said = gave (refused n); taken = taken; buffer = buffer } }
+  completed-refused n e = ap (shown r taken buffer) e
+
+-- no more bytes are taken than the piece has
+scan-taken-test : (t : Bool) (a b : Scan) (n : ℕ) → a .taken ≤ n → b .taken ≤ n → cond t a b .taken ≤ n
+scan-taken-test true a b n p q = p
+scan-taken-test false a b n p q = q
+
+scan-taken : (piece : List ℕ) (n : ℕ) (r : Record) → scanFrom n r piece .taken ≤ n + length piece
+unfolding scanFrom
+scan-taken [] n r = omega arith
+scan-taken (b ∷ piece) n r =
+    scan-taken-test (closes r b) (record { before = r; taken = n + 1; closed = true }) (scanFrom (n + 1) (nextByte r b) piece) (n + length (b ∷ piece))
+    (omega arith) (omega (arith, scan-taken piece (n + 1) (nextByte r b)))
+
+fed-taken : (t : Bool) (r : Record) (n : ℕ) (buffer : List ℕ) → cond t (completed r n buffer) (unfinished r n buffer) .result .taken ≡ n
+fed-taken true r n buffer = refl
+fed-taken false r n buffer = refl
+
+feed-taken : (r : Record) (piece buffer : List ℕ) → feedOf r piece buffer .result .taken ≤ length piece
+unfolding feedOf
+feed-taken r piece buffer = go (inRange r) (ltb (length buffer) 260)
+  where
+    go : (t u : Bool)
+        → cond t (cond u (refusedCall 1 r buffer) (fedBy (scanFrom 0 r piece) buffer)) (refusedCall 2 r buffer) .result .taken ≤ length piece
+    go true true = omega arith
+    go true false =
+        let s = scanFrom 0 r piece in omega (arith, fed-taken (s .closed) (s .before) (s .taken) buffer, scan-taken piece 0 r)
+    go false u = omega arith
+
+-- the same, as a caller of `feed` has it from the contract
+pub taken-within : (f : Fed) (store after : List ℕ) (r : Record) (piece buffer : List ℕ) → paperFed f store after ≡ feedOf r piece buffer
+    → f .taken ≤ length piece
+taken-within f store after r piece buffer e =
+    let t : f .taken ≡ feedOf r piece buffer .result .taken = ap (λ (x : Outcome). x .result .taken) e in omega (arith, feed-taken r piece buffer)

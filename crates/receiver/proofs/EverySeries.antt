@@ -1,0 +1,438 @@
+-- Demand 3: every series of calls gives what its stream says. Assumes nothing.
+use Prim.Native.Nat.{ℕ, _+_, _-_, _≤_, _<_}
+use native.Mathlib.Omega.{arith}
+use mathlib.Core.Path.{_≡_, refl, sym, ap, subst, _∙_}
+use mathlib.Core.Bool.{Bool, true, false, cond, _&&_, not, false≢true}
+use mathlib.Core.List.{List, [], _∷_, _++_, map, append-assoc, append-nil}
+use lib.Dec.{ltb, eqb}
+use lib.ListN.{length, take, drop, getD, length-append, take-append-drop}
+use lib.Seq.{drop-append-seam}
+use borrow.Author.Tests.{ltb-true, ltb-false, lt-ltb, le-ltb, eqb-true}
+use Rattle.refusal.specs.Refusals.{Numbered, number, _carrying_, Answered, served, refused}
+use Rattle.refusal.proofs.Room.{take-overlay}
+use Rattle.shdlc.specs.declared.Kind.{Kind}
+use Rattle.shdlc.specs.Checksum.{checksumOf}
+use Rattle.shdlc.specs.Body.{shortest, longest, lengthPlace, checkBody}
+use Rattle.shdlc.specs.Stream.{Event, byte, mark, Item, Place, outside, inside, next, gain, itemsFrom, items}
+use Rattle.shdlc.proofs.Stream.{placeFrom, place-append, items-append, map-append}
+use Rattle.receiver.specs.declared.Mode.{Mode}
+use Rattle.receiver.specs.declared.Mode.the-variants.{Outside, Plain, Escaped, BadEscape, BareControl}
+use Rattle.receiver.specs.Record.{Record, inRange, fresh, opened, silenced, pending, itemIn, itemOf, nextByte, nextRecord, recordFrom, recordOf}
+use Rattle.receiver.specs.Calls.{Said, nothing, gave, Result, Outcome, saidOf, bufferOf, refusedCall, completed, unfinished, closes, Scan, scanFrom, fedBy, feedOf, silenceOf}
+use Rattle.receiver.specs.Series.{Call, feeding, silence, upTo, added, streamFrom, streamOf, gained, giving, expected, expectedFrom, outcome, results, recordAfter, isRoom, reported, reports, NoneRefused2, HandsIn, Demand3}
+use Rattle.receiver.proofs.Cases.{feed-room, feed-scan, silence-said, quiet}
+use Rattle.receiver.proofs.Simulation.{At, at-next, gains, at-gain, at-range, at-fresh}
+
+abbrev placeOf : List Event → Place
+placeOf stream = placeFrom outside stream
+
+record-append : (es fs : List Event) (r : Record) → recordFrom r (es ++ fs) ≡ recordFrom (recordFrom r es) fs
+unfolding recordFrom
+record-append [] fs r = refl
+record-append (e ∷ es) fs r = record-append es fs (nextRecord r e)
+
+at-record : (kind : Kind) (es : List Event) (place : Place) (r : Record) → At kind place r → At kind (placeFrom place es) (recordFrom r es)
+unfolding placeFrom recordFrom
+at-record kind [] place r h = h
+at-record kind (e ∷ es) place r h = at-record kind es (next place e) (nextRecord r e) (at-next kind place r e h)
+
+at-stream : (kind : Kind) (stream : List Event) → At kind (placeOf stream) (recordOf kind stream)
+at-stream kind stream = at-record kind stream outside (fresh kind) (at-fresh kind)
+
+-- what a stream gains is what comes at its place
+gained-at : (kind : Kind) (stream more : List Event) → gained kind stream more ≡ itemsFrom kind (placeOf stream) more
+unfolding gained items
+gained-at kind stream more = rw items-append (drop-append-seam (itemsFrom kind outside stream) (itemsFrom kind (placeOf stream) more))
+
+items-gained : (kind : Kind) (stream more : List Event) → items kind (stream ++ more) ≡ items kind stream ++ gained kind stream more
+unfolding items
+items-gained kind stream more =
+    items-append kind stream more outside ∙ ap (λ (g : List Item). itemsFrom kind outside stream ++ g) (sym (gained-at kind stream more))
+
+-- the piece up to the first item, by the place
+some-item : List Item → Bool
+some-item [] = false
+some-item (i ∷ l) = true
+
+longer : (a b : List Item) → ltb (length a) (length (a ++ b)) ≡ some-item b
+unfolding some-item
+longer a [] = rw append-nil (le-ltb (length a) (length a) (omega arith))
+longer a (i ∷ b) = lt-ltb (length a) (length (a ++ (i ∷ b))) (omega (arith, length-append a (i ∷ b)))
+
+upToAt : Kind → Place → List ℕ → List ℕ
+upToAt kind place [] = []
+upToAt kind place (b ∷ piece) = b ∷ cond (some-item (gain kind place (byte b))) [] (upToAt kind (next place (byte b)) piece)
+
+gains-item : (kind : Kind) (stream : List Event) (b : ℕ)
+    → ltb (length (items kind stream)) (length (items kind (stream ++ (byte b ∷ [])))) ≡ some-item (gain kind (placeOf stream) (byte b))
+unfolding items itemsFrom
+gains-item kind stream b = rw (items-append, append-nil) (longer (itemsFrom kind outside stream) (gain kind (placeOf stream) (byte b)))
+
+up-to-at : (kind : Kind) (piece : List ℕ) (stream : List Event) → upTo kind stream piece ≡ upToAt kind (placeOf stream) piece
+unfolding upTo upToAt placeFrom
+up-to-at kind [] stream = refl
+up-to-at kind (b ∷ piece) stream = rw (gains-item, up-to-at kind piece (stream ++ (byte b ∷ [])), place-append)
+
+-- it is a part of the piece from its front, and has a byte if the piece has one
+cut-short : (t : Bool) (b : ℕ) (u piece : List ℕ) → take (length u) piece ≡ u → take (length (b ∷ cond t [] u)) (b ∷ piece) ≡ b ∷ cond t [] u
+cut-short true b u piece h = refl
+cut-short false b u piece h = ap (λ (l : List ℕ). b ∷ l) h
+
+up-to-front : (kind : Kind) (piece : List ℕ) (stream : List Event) → take (length (upTo kind stream piece)) piece ≡ upTo kind stream piece
+unfolding upTo
+up-to-front kind [] stream = refl
+up-to-front kind (b ∷ piece) stream =
+    cut-short (ltb (length (items kind stream)) (length (items kind (stream ++ (byte b ∷ []))))) b (upTo kind (stream ++ (byte b ∷ [])) piece) piece
+    (up-to-front kind piece (stream ++ (byte b ∷ [])))
+
+up-to-some : (kind : Kind) (piece : List ℕ) (stream : List Event) → 1 ≤ length piece → 1 ≤ length (upTo kind stream piece)
+unfolding upTo
+up-to-some kind [] stream h = omega arith
+up-to-some kind (b ∷ piece) stream h = omega arith
+
+-- a scan from a place: the bytes passed, the record after them, and the item that they gain
+abbrev shown : Scan → List Item
+shown s = cond (s .closed) (itemOf (s .before) ∷ []) []
+
+record Scans (kind : Kind) (place : Place) (r : Record) (n : ℕ) (u : List ℕ) (s : Scan) : Type 0 where
+  taken : s .taken ≡ n + length u
+  leaves : cond (s .closed) (opened (s .before)) (s .before) ≡ recordFrom r (map byte u)
+  item : shown s ≡ itemsFrom kind place (map byte u)
+
+closes-item : (t u : Bool) (i : Item) → some-item (cond t (cond u (i ∷ []) []) []) ≡ (t && u)
+unfolding some-item
+closes-item true true i = refl
+closes-item true false i = refl
+closes-item false u i = refl
+
+at-closes : (kind : Kind) (place : Place) (r : Record) (b : ℕ) → At kind place r → some-item (gain kind place (byte b)) ≡ closes r b
+at-closes kind place r b h = rw (← at-gain kind place r (byte b) h) (closes-item (eqb b 0x7E) (pending r) (itemOf r))
+
+closing : (t u : Bool) → (t && u) ≡ true → (t ≡ true) × (u ≡ true)
+closing true true h = (refl, refl)
+closing true false h = (refl, h)
+closing false u h = (h, absurd (false≢true h))
+
+not-closing : (t u : Bool) (i : Item) → (t && u) ≡ false → cond t (cond u (i ∷ []) []) [] ≡ []
+not-closing true true i h = absurd (false≢true (sym h))
+not-closing true false i h = refl
+not-closing false u i h = refl
+
+module _ (kind : Kind) (place : Place) (r : Record) (n b : ℕ) (h : At kind place r) where
+  scans-closing : closes r b ≡ true → Scans kind place r n (b ∷ []) (record { before = r; taken = n + 1; closed = true })
+  unfolding recordFrom nextRecord nextByte itemsFrom
+  scans-closing c =
+      let t = closing (eqb b 0x7E) (pending r) c in
+      record { taken = refl; leaves = rw (t .0); item = rw (append-nil, ← at-gain kind place r (byte b) h, t .0, t .1) }
+
+  scans-on : (u : List ℕ) (s : Scan) → closes r b ≡ false → Scans kind (next place (byte b)) (nextRecord r (byte b)) (n + 1) u s
+      → Scans kind place r n (b ∷ u) s
+  unfolding recordFrom itemsFrom
+  scans-on u s c q =
+      record {
+        taken = omega (arith, q .taken);
+        leaves = q .leaves;
+        item = rw (← at-gain kind place r (byte b) h, not-closing (eqb b 0x7E) (pending r) (itemOf r) c) (q .item);
+      }
+
+  scans-byte : (t : Bool) (u : List ℕ) (s : Scan) → closes r b ≡ t → Scans kind (next place (byte b)) (nextRecord r (byte b)) (n + 1) u s
+      → Scans kind place r n (b ∷ cond t [] u) (cond t (record { before = r; taken = n + 1; closed = true }) s)
+  scans-byte true u s c q = scans-closing c
+  scans-byte false u s c q = scans-on u s c q
+
+scans : (kind : Kind) (piece : List ℕ) (place : Place) (r : Record) (n : ℕ) → At kind place r
+    → Scans kind place r n (upToAt kind place piece) (scanFrom n r piece)
+unfolding upToAt scanFrom recordFrom itemsFrom nextRecord
+scans kind [] place r n h = record { taken = omega arith; leaves = refl; item = refl }
+scans kind (b ∷ piece) place r n h =
+    rw (at-closes kind place r b h)
+    (scans-byte kind place r n b h (closes r b) (upToAt kind (next place (byte b)) piece) (scanFrom (n + 1) (nextByte r b) piece) refl
+    (scans kind piece (next place (byte b)) (nextRecord r (byte b)) (n + 1) (at-next kind place r (byte b) h)))
+
+-- an item of a stream is a frame, or a refusal that is neither 1 nor 2
+abbrev Proper : Item → Type 0
+Proper (served body) = Unit {0}
+Proper (refused n) = (isRoom n ≡ false) × (n ≡ number 2 → ⊥)
+
+proper-number : (n : ℕ) → 3 ≤ n → Proper (refused (number n))
+proper-number n h = (go (eqb n 1) refl, λ e. let z : n ≡ 2 = cc in omega arith)
+  where
+    go : (t : Bool) → eqb n 1 ≡ t → eqb n 1 ≡ false
+    go true e = absurd (omega (arith, eqb-true n 1 e))
+    go false e = e
+
+proper-checks : (a b c d : Bool) (body : List ℕ)
+    → Proper (cond a (refused (number 5)) (cond b (refused (number 6)) (cond c (refused (number 7)) (cond d (refused (number 8)) (served body)))))
+proper-checks true b c d body = proper-number 5 (omega arith)
+proper-checks false true c d body = proper-number 6 (omega arith)
+proper-checks false false true d body = proper-number 7 (omega arith)
+proper-checks false false false true body = proper-number 8 (omega arith)
+proper-checks false false false false body = tt
+
+proper-body : (kind : Kind) (body : List ℕ) → Proper (checkBody kind body)
+unfolding checkBody
+proper-body kind body =
+    proper-checks (ltb (longest kind) (length body)) (ltb (length body) (shortest kind))
+    (not (eqb (getD body (lengthPlace kind) 0) (length body - shortest kind)))
+    (not (eqb (getD body (length body - 1) 0) (checksumOf (take (length body - 1) body)))) body
+
+proper-long : (t : Bool) (i : Item) → Proper i → Proper (cond t (refused (number 5)) i)
+proper-long true i h = proper-number 5 (omega arith)
+proper-long false i h = h
+
+proper-item : (m : Mode) (kind : Kind) (n : ℕ) (store : List ℕ) → Proper (itemIn m kind n store)
+proper-item Outside kind n store = proper-number 3 (omega arith)
+proper-item Plain kind n store = proper-long (ltb 260 n) (checkBody kind (take n store)) (proper-body kind (take n store))
+proper-item Escaped kind n store = proper-number 3 (omega arith)
+proper-item BadEscape kind n store = proper-number 3 (omega arith)
+proper-item BareControl kind n store = proper-number 4 (omega arith)
+
+-- at most one item is gained by a call, and it is proper
+abbrev One : List Item → Type 0
+One [] = Unit {0}
+One (i ∷ l) = Proper i × (l ≡ [])
+
+-- what a call gives is reported again as what was gained
+report-item : (i : Item) (buffer : List ℕ) → Proper i → reported (saidOf i) (bufferOf i buffer) ≡ i ∷ []
+report-item (served body) buffer h = ap (λ (s : List ℕ). served s ∷ []) (take-overlay buffer body)
+report-item (refused n) buffer h = rw (h .0)
+
+reports-back : (g : List Item) (n : ℕ) (buffer : List ℕ) → One g → reported (giving g n buffer .said) (giving g n buffer .buffer) ≡ g
+reports-back [] n buffer h = refl
+reports-back (i ∷ l) n buffer h = report-item i buffer (h .0) ∙ ap (λ (x : List Item). i ∷ x) (sym (h .1))
+
+item-not-2 : (i : Item) → Proper i → saidOf i ≡ gave (refused (number 2)) → ⊥
+item-not-2 (served body) h e = let z : _≡_ {A = ℕ} 0 1 = cc in omega arith
+item-not-2 (refused n) h e = h .1 (let z : n ≡ number 2 = cc in z)
+
+never-refused-2 : (g : List Item) (n : ℕ) (buffer : List ℕ) → One g → giving g n buffer .said ≡ gave (refused (number 2)) → ⊥
+never-refused-2 [] n buffer h e = let z : _≡_ {A = ℕ} 0 1 = cc in omega arith
+never-refused-2 (i ∷ l) n buffer h e = item-not-2 i (h .0) e
+
+-- what a call gives is what its stream says
+record Meets (kind : Kind) (stream : List Event) (r : Record) (call : Call) : Type 0 where
+  gives : outcome r call .result ≡ expected kind stream call
+  leaves : outcome r call .leaves ≡ recordFrom r (added kind stream call)
+  reports : reported (expected kind stream call .said) (expected kind stream call .buffer) ≡ gained kind stream (added kind stream call)
+  not-2 : expected kind stream call .said ≡ gave (refused (number 2)) → ⊥
+
+-- the outcome of a scan
+one-shown : (t : Bool) (r : Record) → One (cond t (itemOf r ∷ []) [])
+one-shown true r = (proper-item (r .mode) (r .kind) (r .len) (r .store), refl)
+one-shown false r = tt
+
+fed-result : (t : Bool) (r : Record) (n : ℕ) (buffer : List ℕ)
+    → cond t (completed r n buffer) (unfinished r n buffer) .result ≡ giving (cond t (itemOf r ∷ []) []) n buffer
+fed-result true r n buffer = refl
+fed-result false r n buffer = refl
+
+fed-leaves : (t : Bool) (r : Record) (n : ℕ) (buffer : List ℕ) → cond t (completed r n buffer) (unfinished r n buffer) .leaves ≡ cond t (opened r) r
+fed-leaves true r n buffer = refl
+fed-leaves false r n buffer = refl
+
+-- what a mark gains
+abbrev cut : Bool → List Item
+cut t = cond t (refused (number 9) ∷ []) []
+
+one-cut : (t : Bool) → One (cut t)
+one-cut true = (proper-number 9 (omega arith), refl)
+one-cut false = tt
+
+quiet-result : (t : Bool) (r : Record) → quiet r (cond t (gave (refused (number 9))) nothing) .result ≡ giving (cut t) 0 []
+quiet-result true r = refl
+quiet-result false r = refl
+
+module _ (kind : Kind) (stream : List Event) (r : Record) (h : At kind (placeOf stream) r) where
+  gained-mark : gained kind stream (mark ∷ []) ≡ cut (pending r)
+  unfolding itemsFrom
+  gained-mark =
+      gained-at kind stream (mark ∷ []) ∙ append-nil (gain kind (placeOf stream) mark) ∙ sym (at-gain kind (placeOf stream) r mark h)
+
+  meets-silence : Meets kind stream r silence
+  unfolding expected added recordFrom nextRecord
+  meets-silence =
+      let q = silence-said r (at-range kind (placeOf stream) r h) in
+      let g = gained-mark in
+      record {
+        gives = rw g (ap (λ (x : Outcome). x .result) q ∙ quiet-result (pending r) r);
+        leaves = ap (λ (x : Outcome). x .leaves) q;
+        reports = rw g (reports-back (cut (pending r)) 0 [] (one-cut (pending r)));
+        not-2 = rw g (never-refused-2 (cut (pending r)) 0 [] (one-cut (pending r)));
+      }
+
+  module _ (piece buffer : List ℕ) where
+    meets-small : length buffer < 260 → Meets kind stream r (feeding piece buffer)
+    unfolding expected added recordFrom itemsFrom
+    meets-small l =
+        let f = feed-room r piece buffer (at-range kind (placeOf stream) r h) l in
+        let e = lt-ltb (length buffer) 260 l in
+        record {
+          gives = rw e (ap (λ (x : Outcome). x .result) f);
+          leaves = rw e (ap (λ (x : Outcome). x .leaves) f);
+          reports = rw e (sym (gained-at kind stream []));
+          not-2 = rw e (λ q. let z : _≡_ {A = ℕ} 1 2 = cc in omega arith);
+        }
+
+    meets-large : 260 ≤ length buffer → Meets kind stream r (feeding piece buffer)
+    unfolding expected added
+    meets-large l =
+        let s = scanFrom 0 r piece in
+        let f = feed-scan r piece buffer (at-range kind (placeOf stream) r h) l in
+        let e = le-ltb (length buffer) 260 l in
+        let u : upTo kind stream piece ≡ upToAt kind (placeOf stream) piece = up-to-at kind piece stream in
+        let q = scans kind piece (placeOf stream) r 0 h in
+        let n : s .taken ≡ length (upTo kind stream piece) = omega (arith, q .taken, ap length u) in
+        let g : gained kind stream (map byte (upTo kind stream piece)) ≡ shown s =
+        gained-at kind stream (map byte (upTo kind stream piece))
+        ∙ ap (λ (x : List ℕ). itemsFrom kind (placeOf stream) (map byte x)) u
+        ∙ sym (q .item) in
+        record {
+          gives =
+              rw (e, g)
+              (ap (λ (x : Outcome). x .result) f ∙ fed-result (s .closed) (s .before) (s .taken) buffer
+              ∙ ap (λ (m : ℕ). giving (shown s) m buffer) n);
+          leaves =
+              rw e
+              (ap (λ (x : Outcome). x .leaves) f ∙ fed-leaves (s .closed) (s .before) (s .taken) buffer ∙ q .leaves
+              ∙ sym (ap (λ (x : List ℕ). recordFrom r (map byte x)) u));
+          reports = rw (e, g) (reports-back (shown s) _ buffer (one-shown (s .closed) (s .before)));
+          not-2 = rw (e, g) (never-refused-2 (shown s) _ buffer (one-shown (s .closed) (s .before)));
+        }
+
+  meets : (call : Call) → Meets kind stream r call
+  meets silence = meets-silence
+  meets (feeding piece buffer) = go (ltb (length buffer) 260) refl
+    where
+      go : (t : Bool) → ltb (length buffer) 260 ≡ t → Meets kind stream r (feeding piece buffer)
+      go true e = meets-small piece buffer (ltb-true _ _ e)
+      go false e = meets-large piece buffer (ltb-false _ _ e)
+
+-- a call with the record that a stream leaves
+meets-stream : (kind : Kind) (stream : List Event) (r : Record) → r ≡ recordOf kind stream → (call : Call) → Meets kind stream r call
+meets-stream kind stream r e call = meets kind stream r (subst (At kind (placeOf stream)) (sym e) (at-stream kind stream)) call
+
+-- the record afterwards is the one that the longer stream leaves
+leaves-stream : (kind : Kind) (stream : List Event) (r : Record) (e : r ≡ recordOf kind stream) (call : Call)
+    → outcome r call .leaves ≡ recordOf kind (stream ++ added kind stream call)
+leaves-stream kind stream r e call =
+    meets-stream kind stream r e call .leaves
+    ∙ ap (λ (x : Record). recordFrom x (added kind stream call)) e
+    ∙ sym (record-append stream (added kind stream call) (fresh kind))
+
+-- a series that goes on from a stream, with the record that the stream leaves
+record Goes (kind : Kind) (stream : List Event) (r : Record) (calls : List Call) : Type 0 where
+  gives : results r calls ≡ expectedFrom kind stream calls
+  leaves : recordAfter r calls ≡ recordOf kind (streamFrom kind stream calls)
+  all-items : items kind stream ++ reports (expectedFrom kind stream calls) ≡ items kind (streamFrom kind stream calls)
+  not-2 : NoneRefused2 (expectedFrom kind stream calls)
+
+goes-call : (kind : Kind) (stream : List Event) (r : Record) (call : Call) (calls : List Call) → Meets kind stream r call
+    → Goes kind (stream ++ added kind stream call) (outcome r call .leaves) calls → Goes kind stream r (call ∷ calls)
+unfolding results expectedFrom recordAfter streamFrom reports NoneRefused2
+goes-call kind stream r call calls m g =
+    record {
+      gives = rw (m .gives, g .gives);
+      leaves = g .leaves;
+      all-items =
+          rw (
+            m .reports,
+            ← append-assoc (items kind stream) (gained kind stream (added kind stream call)) (reports (expectedFrom kind (stream ++ added kind stream call) calls)),
+            ← items-gained,
+          )
+          (g .all-items);
+      not-2 = (m .not-2, g .not-2);
+    }
+
+goes : (kind : Kind) (calls : List Call) (stream : List Event) (r : Record) → r ≡ recordOf kind stream → Goes kind stream r calls
+unfolding results expectedFrom recordAfter streamFrom reports NoneRefused2
+goes kind [] stream r e = record { gives = refl; leaves = e; all-items = append-nil (items kind stream); not-2 = tt }
+goes kind (call ∷ calls) stream r e =
+    goes-call kind stream r call calls (meets-stream kind stream r e call)
+    (goes kind calls (stream ++ added kind stream call) (outcome r call .leaves) (leaves-stream kind stream r e call))
+
+fresh-is : (kind : Kind) → fresh kind ≡ recordOf kind []
+unfolding recordFrom
+fresh-is kind = refl
+
+from-fresh : (kind : Kind) (calls : List Call) → Goes kind [] (fresh kind) calls
+from-fresh kind calls = goes kind calls [] (fresh kind) (fresh-is kind)
+
+end : (kind : Kind) (calls : List Call) → recordAfter (fresh kind) calls ≡ recordOf kind (streamOf kind calls)
+end kind calls = from-fresh kind calls .leaves
+
+-- what a feeding call adds is what it reports as taken, and the rest of its piece is left
+giving-taken : (g : List Item) (n : ℕ) (buffer : List ℕ) → giving g n buffer .taken ≡ n
+giving-taken [] n buffer = refl
+giving-taken (i ∷ l) n buffer = refl
+
+taken-added : (kind : Kind) (stream : List Event) (piece buffer : List ℕ)
+    → added kind stream (feeding piece buffer) ≡ map byte (take (expected kind stream (feeding piece buffer) .taken) piece)
+unfolding added expected
+taken-added kind stream piece buffer =
+    go (ltb (length buffer) 260) (gained kind stream (map byte (upTo kind stream piece)))
+  where
+    go : (t : Bool) (g : List Item)
+        → cond t [] (map byte (upTo kind stream piece))
+        ≡ map byte (take (cond t (record { said = gave (refused (number 1)); taken = 0; buffer = buffer }) (giving g (length (upTo kind stream piece)) buffer) .taken) piece)
+    go true g = refl
+    go false g = ap (map byte) (sym (ap (λ (n : ℕ). take n piece) (giving-taken g (length (upTo kind stream piece)) buffer) ∙ up-to-front kind piece stream))
+
+taken-and-left : (kind : Kind) (stream : List Event) (piece buffer : List ℕ) (n : ℕ) → n ≡ expected kind stream (feeding piece buffer) .taken
+    → added kind stream (feeding piece buffer) ++ map byte (drop n piece) ≡ map byte piece
+taken-and-left kind stream piece buffer n e =
+    ap (λ (l : List Event). l ++ map byte (drop n piece))
+    (taken-added kind stream piece buffer ∙ ap (λ (m : ℕ). map byte (take m piece)) (sym e))
+    ∙ sym (map-append (take n piece) (drop n piece))
+    ∙ ap (map byte) (take-append-drop n piece)
+
+mark-front : (kind : Kind) (stream rest : List Event) → (stream ++ added kind stream silence) ++ rest ≡ stream ++ (mark ∷ rest)
+unfolding added
+mark-front kind stream rest = append-assoc stream (mark ∷ []) rest
+
+whole : (kind : Kind) (calls : List Call) (stream left : List Event) (r : Record) → r ≡ recordOf kind stream → HandsIn r left calls
+    → streamFrom kind stream calls ≡ stream ++ left
+unfolding HandsIn streamFrom
+whole kind [] stream left r e h = rw h (sym (append-nil stream))
+whole kind (silence ∷ calls) stream left r e h =
+    whole kind calls (stream ++ added kind stream silence) (h .0) (outcome r silence .leaves) (leaves-stream kind stream r e silence) (h .2)
+    ∙ mark-front kind stream (h .0)
+    ∙ ap (λ (l : List Event). stream ++ l) (sym (h .1))
+whole kind (feeding piece buffer ∷ calls) stream left r e h =
+    let call = feeding piece buffer in
+    let n = feedOf r piece buffer .result .taken in
+    let taken : n ≡ expected kind stream call .taken = ap (λ (x : Result). x .taken) (meets-stream kind stream r e call .gives) in
+    whole kind calls (stream ++ added kind stream call) (map byte (drop n piece) ++ h .0) (outcome r call .leaves)
+    (leaves-stream kind stream r e call) (h .2)
+    ∙ append-assoc stream (added kind stream call) (map byte (drop n piece) ++ h .0)
+    ∙ ap (λ (l : List Event). stream ++ l)
+      (sym (append-assoc (added kind stream call) (map byte (drop n piece)) (h .0))
+      ∙ ap (λ (l : List Event). l ++ h .0) (taken-and-left kind stream piece buffer n taken)
+      ∙ sym (h .1))
+
+expected-taken : (kind : Kind) (stream : List Event) (piece buffer : List ℕ) → 260 ≤ length buffer
+    → expected kind stream (feeding piece buffer) .taken ≡ length (upTo kind stream piece)
+unfolding expected
+expected-taken kind stream piece buffer l =
+    rw (le-ltb (length buffer) 260 l)
+    (giving-taken (gained kind stream (map byte (upTo kind stream piece))) (length (upTo kind stream piece)) buffer)
+
+some-taken : (kind : Kind) (stream : List Event) (r : Record) (piece buffer : List ℕ) → r ≡ recordOf kind stream → 1 ≤ length piece → 260 ≤ length buffer
+    → 1 ≤ feedOf r piece buffer .result .taken
+some-taken kind stream r piece buffer e h l =
+    let gives : feedOf r piece buffer .result .taken ≡ expected kind stream (feeding piece buffer) .taken =
+    ap (λ (x : Result). x .taken) (meets-stream kind stream r e (feeding piece buffer) .gives) in
+    omega (arith, gives, expected-taken kind stream piece buffer l, up-to-some kind piece stream h)
+
+pub demand3 : (kind : Kind) → Demand3 kind
+unfolding items itemsFrom
+demand3 kind =
+    record {
+      each-call = λ calls. from-fresh kind calls .gives;
+      never-2 = λ calls. let g = from-fresh kind calls in rw (g .gives) (g .not-2);
+      all-items = λ calls. let g = from-fresh kind calls in rw (g .gives) (g .all-items);
+      end-record = end kind;
+      one-record = λ calls others same. end kind calls ∙ ap (recordOf kind) same ∙ sym (end kind others);
+      in-ranges = λ stream. at-range kind (placeOf stream) (recordOf kind stream) (at-stream kind stream);
+      every-cut = λ stream calls h. whole kind calls [] stream (fresh kind) (fresh-is kind) h;
+      progress = λ calls piece buffer h l. some-taken kind (streamOf kind calls) (recordAfter (fresh kind) calls) piece buffer (end kind calls) h l;
+    }

@@ -1,0 +1,6 @@
+-- The laws of the definitions in specs/, and demand 3.
+pub mod Turns
+pub mod Cases
+pub mod Simulation
+pub mod EverySeries
+pub mod OneToOne

@@ -1,0 +1,16 @@
+-- `receiver::act_escaped` meets its contract. Assumes nothing.
+use borrow.Author.Tests.{ne-eqb}
+use Rattle.receiver.proofs.act_escaped.Statement.{statement}
+use Rattle.receiver.proofs.act_escaped.Tie as tie
+
+pub act-escaped-spec : {M : Type 1} → statement M
+act-escaped-spec =
+    tie.close
+    (tie.spec
+    (λ c. rw (c .match .keys1))
+    (λ c. rw (c .match .keys2))
+    (λ c. rw (c .match .keys3))
+    (λ c. rw (c .match .keys4))
+    (λ c.
+    let r = c .match .rest in
+    simp (ne-eqb _ _ (r .1), ne-eqb _ _ (r .0 .1), ne-eqb _ _ (r .0 .0 .1), ne-eqb _ _ (r .0 .0 .0 .1))))

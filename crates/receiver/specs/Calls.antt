@@ -1,0 +1,112 @@
+-- The models of the calls: what each gives for every record, piece and lent buffer.
+use Prim.Native.Nat.{ℕ, _+_}
+use mathlib.Core.Bool.{Bool, true, false, cond, _&&_}
+use mathlib.Core.List.{List, [], _∷_}
+use lib.Dec.{ltb, eqb}
+use lib.ListN.{length, replicate}
+use Rattle.refusal.specs.Refusals.{Numbered, number, Answered, served, refused, paper}
+use Rattle.refusal.specs.Room.{overlay}
+use Rattle.shdlc.specs.declared.Kind.{Kind}
+use Rattle.shdlc.specs.Stream.{Item}
+use Rattle.receiver.specs.declared.Receiver.{Receiver}
+use Rattle.receiver.specs.declared.Answer.{Answer}
+use Rattle.receiver.specs.declared.Answer.the-variants as answer
+use Rattle.receiver.specs.declared.Made.{Made}
+use Rattle.receiver.specs.declared.Made.the-variants as made
+use Rattle.receiver.specs.declared.Fed.{Fed}
+use Rattle.receiver.specs.declared.Scanned.{Scanned}
+use Rattle.receiver.specs.declared.Quiet.{Quiet}
+use Rattle.receiver.specs.Record.{Record, held, inRange, fresh, opened, silenced, pending, itemOf, nextByte}
+
+-- what a call says: nothing yet, or an item, a frame by the length of its body
+pub data Said : Type 0 where
+  nothing : Said
+  gave : Answered ℕ → Said
+
+-- what a call gives back: its answer, the bytes taken, and the lent frame buffer afterwards
+pub record Result : Type 0 where
+  pub said : Said
+  pub taken : ℕ
+  pub buffer : List ℕ
+
+pub record Outcome : Type 0 where
+  pub leaves : Record
+  pub result : Result
+
+-- the answers of the code in these words
+abbrev pub paperAnswer : Answer → Said
+paperAnswer answer.Nothing = nothing
+paperAnswer (answer.Frame n) = gave (served n)
+paperAnswer (answer.Refused r) = gave (refused (paper r))
+
+abbrev pub paperFed : Fed → List ℕ → List ℕ → Outcome
+paperFed f store buffer =
+    record { leaves = held (f .receiver) store; result = record { said = paperAnswer (f .answer); taken = f .taken; buffer = buffer } }
+
+-- a mark takes no bytes and is lent no frame buffer
+abbrev pub paperQuiet : Quiet → List ℕ → Outcome
+paperQuiet q store = record { leaves = held (q .receiver) store; result = record { said = paperAnswer (q .answer); taken = 0; buffer = [] } }
+
+abbrev pub paperMade : Made → List ℕ → Answered Record
+paperMade (made.Fresh r) store = served (held r store)
+paperMade (made.Refused r) store = refused (paper r)
+
+-- the fresh record in a store of 260 bytes, or refusal 1
+unfoldable pub freshOf : Kind → List ℕ → Answered Record × List ℕ
+freshOf kind store = cond (eqb (length store) 260) (served (fresh kind), replicate 260 0) (refused (number 1), store)
+
+-- a refused call: nothing is taken, and all is as it was
+abbrev pub refusedCall : ℕ → Record → List ℕ → Outcome
+refusedCall n r buffer = record { leaves = r; result = record { said = gave (refused (number n)); taken = 0; buffer = buffer } }
+
+-- a frame by its length; its body stands at the buffer's start
+abbrev pub saidOf : Item → Said
+saidOf (served body) = gave (served (length body))
+saidOf (refused n) = gave (refused n)
+
+abbrev pub bufferOf : Item → List ℕ → List ℕ
+bufferOf (served body) buffer = overlay buffer 0 body
+bufferOf (refused n) buffer = buffer
+
+-- an item is completed
+abbrev pub completed : Record → ℕ → List ℕ → Outcome
+completed r taken buffer =
+    record { leaves = opened r; result = record { said = saidOf (itemOf r); taken = taken; buffer = bufferOf (itemOf r) buffer } }
+
+-- the whole piece is taken
+abbrev pub unfinished : Record → ℕ → List ℕ → Outcome
+unfinished r taken buffer = record { leaves = r; result = record { said = nothing; taken = taken; buffer = buffer } }
+
+-- a 7E that ends a stretch with a byte
+abbrev pub closes : Record → ℕ → Bool
+closes r b = eqb b 0x7E && pending r
+
+-- a piece read up to a 7E that ends a stretch with a byte: the record before that 7E, the bytes passed with it, and whether it came
+pub record Scan : Type 0 where
+  pub before : Record
+  pub taken : ℕ
+  pub closed : Bool
+
+abbrev pub scannedAs : Scanned → List ℕ → Scan
+scannedAs s store = record { before = held (s .receiver) store; taken = s .taken; closed = s .closed }
+
+unfoldable pub scanFrom : ℕ → Record → List ℕ → Scan
+scanFrom taken r [] = record { before = r; taken = taken; closed = false }
+scanFrom taken r (b ∷ piece) =
+    cond (closes r b) (record { before = r; taken = taken + 1; closed = true }) (scanFrom (taken + 1) (nextByte r b) piece)
+
+-- bytes are taken up to and including the one that completes an item, else the whole piece
+abbrev pub fedBy : Scan → List ℕ → Outcome
+fedBy s buffer = cond (s .closed) (completed (s .before) (s .taken) buffer) (unfinished (s .before) (s .taken) buffer)
+
+-- "A record outside its stated ranges is refusal 2, checked first"; "The lent frame buffer must have 260 bytes; if not, refusal 1"
+unfoldable pub feedOf : Record → List ℕ → List ℕ → Outcome
+feedOf r piece buffer =
+    cond (inRange r) (cond (ltb (length buffer) 260) (refusedCall 1 r buffer) (fedBy (scanFrom 0 r piece) buffer)) (refusedCall 2 r buffer)
+
+-- "A silence mark is a call of its own: it needs no frame buffer, takes no bytes and gives 2, 9 or nothing."
+unfoldable pub silenceOf : Record → Outcome
+silenceOf r =
+    cond (inRange r)
+    (record { leaves = silenced r; result = record { said = cond (pending r) (gave (refused (number 9))) nothing; taken = 0; buffer = [] } })
+    (refusedCall 2 r [])

@@ -1,0 +1,112 @@
+-- The receiver's record: its ranges, the fresh record of each kind, and what a byte or a silence mark does to it (docs/RECORD.md).
+use Prim.Native.Nat.{ℕ, _+_}
+use mathlib.Core.Bool.{Bool, true, false, cond, _&&_}
+use mathlib.Core.List.{List, [], _∷_}
+use mathlib.Core.Option.{Option, none, some}
+use lib.Dec.{ltb, eqb}
+use lib.ListN.{length, take, set, replicate}
+use Rattle.refusal.specs.Refusals.{number, refused}
+use Rattle.shdlc.specs.declared.Kind.{Kind}
+use Rattle.shdlc.specs.Stuffing.{escapes, leftOf, isControl}
+use Rattle.shdlc.specs.Body.{checkBody}
+use Rattle.shdlc.specs.Stream.{Event, byte, mark, Item}
+use Rattle.receiver.specs.declared.Mode.{Mode}
+use Rattle.receiver.specs.declared.Mode.the-variants.{Outside, Plain, Escaped, BadEscape, BareControl}
+use Rattle.receiver.specs.declared.Act.{Act}
+use Rattle.receiver.specs.declared.Act.the-variants.{Store, Become}
+use Rattle.receiver.specs.declared.Receiver.{Receiver}
+
+-- the whole record: the struct's three fields, and the store that is lent beside it
+pub record Record : Type 0 where
+  pub kind : Kind
+  pub mode : Mode
+  pub len : ℕ
+  pub store : List ℕ
+
+abbrev pub held : Receiver → List ℕ → Record
+held r store = record { kind = r .kind; mode = r .mode; len = r .len; store = store }
+
+-- outside a stretch no byte is held; inside one up to 260, and 261 stands for more
+abbrev pub lengthInRange : Mode → ℕ → Bool
+lengthInRange Outside n = eqb n 0
+lengthInRange Plain n = ltb n 262
+lengthInRange Escaped n = ltb n 262
+lengthInRange BadEscape n = ltb n 262
+lengthInRange BareControl n = ltb n 262
+
+abbrev pub inRange : Record → Bool
+inRange r = eqb (length (r .store)) 260 && lengthInRange (r .mode) (r .len)
+
+-- before the first 7E, and after a mark
+abbrev pub outsideOf : Kind → Receiver
+outsideOf kind = record { kind = kind; mode = Outside; len = 0 }
+
+abbrev pub fresh : Kind → Record
+fresh kind = held (outsideOf kind) (replicate 260 0)
+
+-- what a byte after a 7D does
+abbrev pub unescape : Option ℕ → Act
+unescape none = Become BadEscape
+unescape (some b) = Store b
+
+-- what a byte other than 7E does; once a fault is found the rest of the stretch is passed over
+abbrev pub actOf : Mode → ℕ → Act
+actOf Outside b = Become Outside
+actOf Plain b = cond (eqb b 0x7D) (Become Escaped) (cond (isControl b) (Become BareControl) (Store b))
+actOf Escaped b = unescape (leftOf escapes b)
+actOf BadEscape b = Become BadEscape
+actOf BareControl b = Become BareControl
+
+-- a byte of the body, kept where there is room for it
+abbrev pub pushed : Bool → Record → ℕ → Record
+pushed true r b = record { kind = r .kind; mode = Plain; len = r .len + 1; store = set (r .store) (r .len) b }
+pushed false r b = record { kind = r .kind; mode = Plain; len = 261; store = r .store }
+
+unfoldable pub acted : Record → Act → Record
+acted r (Store b) = pushed (ltb (r .len) 260) r b
+acted r (Become m) = record { kind = r .kind; mode = m; len = r .len; store = r .store }
+
+-- a 7E opens an empty stretch
+abbrev pub opened : Record → Record
+opened r = record { kind = r .kind; mode = Plain; len = 0; store = r .store }
+
+-- after a mark bytes are noise
+abbrev pub silenced : Record → Record
+silenced r = held (outsideOf (r .kind)) (r .store)
+
+-- whether the stretch has a byte
+abbrev pub pendingIn : Mode → ℕ → Bool
+pendingIn Outside n = false
+pendingIn Plain n = ltb 0 n
+pendingIn Escaped n = true
+pendingIn BadEscape n = true
+pendingIn BareControl n = true
+
+abbrev pub pending : Record → Bool
+pending r = pendingIn (r .mode) (r .len)
+
+-- the item of a stretch that a 7E ends here
+abbrev pub itemIn : Mode → Kind → ℕ → List ℕ → Item
+itemIn Outside kind n store = refused (number 3)
+itemIn Plain kind n store = cond (ltb 260 n) (refused (number 5)) (checkBody kind (take n store))
+itemIn Escaped kind n store = refused (number 3)
+itemIn BadEscape kind n store = refused (number 3)
+itemIn BareControl kind n store = refused (number 4)
+
+abbrev pub itemOf : Record → Item
+itemOf r = itemIn (r .mode) (r .kind) (r .len) (r .store)
+
+unfoldable pub nextByte : Record → ℕ → Record
+nextByte r b = cond (eqb b 0x7E) (opened r) (acted r (actOf (r .mode) b))
+
+unfoldable pub nextRecord : Record → Event → Record
+nextRecord r (byte b) = nextByte r b
+nextRecord r mark = silenced r
+
+-- the record that a stream leaves
+unfoldable pub recordFrom : Record → List Event → Record
+recordFrom r [] = r
+recordFrom r (event ∷ events) = recordFrom (nextRecord r event) events
+
+abbrev pub recordOf : Kind → List Event → Record
+recordOf kind events = recordFrom (fresh kind) events
