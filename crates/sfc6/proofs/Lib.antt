@@ -10,4 +10,6 @@ pub mod Reading
 pub mod Refusing
 pub mod Written
 pub mod Rewritten
+pub mod RoundRead
 pub mod ReadBack
+pub mod OneToOne

@@ -14,7 +14,7 @@ use Rattle.shdlc.specs.Frame.{frameOf}
 use Rattle.sfc6.specs.declared.Request.{Request}
 use Rattle.sfc6.specs.Commands.{row, outOfRange, badFloat, addressToAll}
 use Rattle.sfc6.specs.Requests.{dataOf, bodyOf, frameToWrite, lay, writeRequest}
-use Rattle.sfc6.specs.ReadBack.{Refuses}
+use Rattle.sfc6.specs.ReadBack.{Decides}
 use Rattle.sfc6.proofs.Laid.{data-short}
 
 -- the answers one after the other
@@ -121,20 +121,20 @@ module _ (address : ℕ) (request : Request) (room : List ℕ) where
   through : {P : Type 0} {b : Answered ℕ} → (Steps x y z t (length frame) ≡ b) ↔ P → (writeRequest address request room .0 ≡ b) ↔ P
   through e = (λ h. e .0 (sym answer ∙ h), λ p. answer ∙ e .1 p)
 
-  pub refuses : Refuses address request room
-  refuses =
+  pub decides : Decides address request room
+  decides =
       let no-room = through (as-1 (length frame) x y z t) in
       let done = through (as-served (length frame) x y z t) in
       record {
-        with-12 = through (as-12 (length frame) x y z t);
-        with-13 = through (as-13 (length frame) x y z t);
-        with-10 = through (as-10 (length frame) x y z t);
-        with-5 = λ h. as-5 (length frame) x y z t (sym answer ∙ h);
-        with-1 = (
+        refuses-12 = through (as-12 (length frame) x y z t);
+        refuses-13 = through (as-13 (length frame) x y z t);
+        refuses-10 = through (as-10 (length frame) x y z t);
+        never-5 = λ h. as-5 (length frame) x y z t (sym answer ∙ h);
+        refuses-1 = (
           λ h. let p = no-room .0 h in (p .0, p .1, p .2, ltb-true _ _ (p .3)),
           λ p. no-room .1 (p .0, p .1, p .2, lt-ltb _ _ (p .3)),
         );
-        never = (
+        accepts = (
           λ h. let p = done .0 h in (p .0, p .1, p .2, ltb-false _ _ (p .3)),
           λ p. done .1 (p .0, p .1, p .2, le-ltb _ _ (p .3)),
         );

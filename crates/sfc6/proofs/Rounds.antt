@@ -1,39 +1,25 @@
 -- A polling round, call by call. Assumes nothing.
 use mathlib.Core.Path.{_≡_, refl, sym, ap, _∙_}
-use mathlib.Core.Bool.{Bool, true, false, cond}
 use mathlib.Core.List.{List, [], _∷_}
 use Prim.Native.Nat.{ℕ, _+_, _-_, _≤_, _<_}
 use native.Mathlib.Omega.{arith}
-use borrow.Author.Tests.{ltb-false}
-use lib.Dec.{ltb}
 use lib.ListN.{length, getD, drop, length-drop}
 use Rattle.refusal.specs.declared.Refusal.{Refusal}
-use Rattle.refusal.specs.Refusals.{Answered, number, served, refused, paper}
-use Rattle.refusal.specs.Room.{overlay, emit}
+use Rattle.refusal.specs.Refusals.{Answered, served, refused, paper}
+use Rattle.refusal.specs.Room.{emit}
+use Rattle.refusal.proofs.Room.{served-within}
 use Rattle.shdlc.specs.declared.Written.{Written}
 use Rattle.shdlc.specs.declared.Written.the-variants.{Done, Refused}
 use Rattle.shdlc.specs.Paper.{paperWritten}
-use Rattle.shdlc.proofs.Rest.{rest-here, rest-end}
+use Rattle.refusal.proofs.Rest.{rest-here, rest-end}
 use Rattle.sfc6.specs.declared.Request.{Request}
 use Rattle.sfc6.specs.Requests.{frameToWrite, lay, writeRequest}
 use Rattle.sfc6.specs.Rounds.{appendRequest, Laid, roundOn, roundFrom}
 use Rattle.sfc6.proofs.Order.{never}
 
 -- what was written fitted
-emit-fits : (frame room : List ℕ) (n : ℕ) → emit frame room .0 ≡ served n → n ≤ length room
-unfolding emit
-emit-fits frame room n = go (ltb (length room) (length frame)) refl
-  where
-    go : (t : Bool) → ltb (length room) (length frame) ≡ t
-        → cond {A = Answered ℕ × List ℕ} t (refused (number 1), room) (served (length frame), overlay room 0 frame) .0 ≡ served n → n ≤ length room
-    go true e h = never (sym h)
-    go false e h =
-        let s : length frame ≡ n = cc in
-        let f : length frame ≤ length room = ltb-false (length room) (length frame) e in
-        omega arith
-
 lay-fits : (answer : Answered (List ℕ)) (room : List ℕ) (n : ℕ) → lay answer room .0 ≡ served n → n ≤ length room
-lay-fits (served frame) room n h = emit-fits frame room n h
+lay-fits (served frame) room n h = served-within frame room (emit frame room .1) n (ap (λ (a : Answered ℕ). (a, emit frame room .1)) (sym h))
 lay-fits (refused m) room n h = never (sym h)
 
 module _ (request : Request) (buffer : List ℕ) (end node : ℕ) (r : Written) (w : List ℕ)

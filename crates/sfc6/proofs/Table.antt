@@ -7,7 +7,7 @@ use native.Mathlib.Omega.{arith}
 use borrow.Author.Tests.{eq-eqb, ne-eqb}
 use lib.ListN.{length, getD, drop}
 use lib.Seq.{getD-drop}
-use Rattle.shdlc.proofs.Rest.{rest-here, rest-end}
+use Rattle.refusal.proofs.Rest.{rest-here, rest-end}
 use Rattle.sfc6.specs.declared.Request.{Request}
 use Rattle.sfc6.specs.declared.Request.the-variants.{ProductType}
 use Rattle.sfc6.specs.Commands.{table, requestAt, member}

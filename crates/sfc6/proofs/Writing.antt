@@ -7,10 +7,11 @@ use native.Mathlib.Omega.{arith}
 use borrow.Author.Tests.{lt-ltb, le-ltb}
 use lib.Dec.{ltb}
 use lib.ListN.{length, take, drop, length-drop, drop-of-length-le}
-use lib.Seq.{take-append-seam, take-all, take-length, drop-length}
+use lib.Seq.{take-all, take-length, drop-length}
 use Rattle.refusal.specs.declared.Refusal.{Refusal}
 use Rattle.refusal.specs.Refusals.{Numbered, Answered, number, served, refused, paper, inOrder}
 use Rattle.refusal.specs.Room.{overlay}
+use Rattle.refusal.proofs.Room.{take-overlay}
 use Rattle.shdlc.specs.declared.Checked.{Checked}
 use Rattle.shdlc.specs.declared.Checked.the-variants.{Good, Refused}
 use Rattle.shdlc.specs.Frame.{frameOf, writeFrame}
@@ -21,10 +22,6 @@ use Rattle.sfc6.specs.Requests.{requestChecks, checkRequest, dataOf, bod
 use Rattle.sfc6.specs.Rounds.{appendRequest}
 use Rattle.sfc6.specs.Paper.{paperPassed}
 use Rattle.sfc6.proofs.Order.{first-refuses, then-more}
-
-pub take-overlay : (out xs : List ℕ) → take (length xs) (overlay out 0 xs) ≡ xs
-unfolding overlay
-take-overlay out xs = take-append-seam xs _
 
 -- the test of the data's length
 abbrev pub five : Row → List (Bool × Numbered)

@@ -13,6 +13,7 @@ use lib.Ieee.Bits.{ofBits-toBits, toBits-lt}
 use borrow.Author.Tests.{le-ltb}
 use Rattle.refusal.specs.Refusals.{Numbered, Answered, number, served, refused, inOrder}
 use Rattle.refusal.specs.Room.{overlay, emit}
+use Rattle.refusal.proofs.Room.{take-overlay}
 use Rattle.shdlc.specs.declared.Kind.the-variants as kind
 use Rattle.shdlc.specs.Checksum.{checksumOf}
 use Rattle.shdlc.specs.Body.{checkBody}
@@ -31,7 +32,7 @@ use Rattle.sfc6.specs.Reading.{startsWith, named, fitting, first, carrie
 use Rattle.sfc6.specs.ReadBack.{Fits}
 use Rattle.sfc6.proofs.Order.{never, first-refuses, then-more, passes-or-refuses}
 use Rattle.sfc6.proofs.Laid.{data-short}
-use Rattle.sfc6.proofs.Writing.{five, take-overlay}
+use Rattle.sfc6.proofs.Writing.{five}
 
 -- a number of so many bytes, and a float, that are written and read
 long : (n : ℕ) → n < 2 ^ 32 → big (bigEndian 4 n) ≡ n
@@ -78,7 +79,7 @@ module _ (address : ℕ) (request : Request) where
   short : length (dataOf r) ≤ 255
   short = omega (arith, data-short r)
 
-  good : checkBody kind.Request (withChecksum body) ≡ served (withChecksum body)
+  pub good : checkBody kind.Request (withChecksum body) ≡ served (withChecksum body)
   unfolding bodyOf
   good = good-body kind.Request (address ∷ r .command ∷ []) (dataOf r) refl short
 

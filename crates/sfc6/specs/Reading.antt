@@ -30,7 +30,7 @@ named command payload r = eqb command (r .command) && startsWith (r .sub) payloa
 unfoldable pub fitting : ℕ → List ℕ → Row → Bool
 fitting command payload r = named command payload r && eqb (length payload) (length (dataOf r))
 
--- the first request of a table whose row passes a test
+-- the first request of a table whose row passes a test; a row's command, subcommand and size are the same for each number, so for 0
 unfoldable pub first : (Row → Bool) → List (ℕ → Request) → Option (ℕ → Request)
 first test [] = none
 first test (request ∷ requests) = cond (test (row (request 0))) (some request) (first test requests)
@@ -44,10 +44,10 @@ abbrev pub foundOr : {A B : Type 0} → ℕ → Option A → (A → Answered B) 
 foundOr n none next = refused (number n)
 foundOr n (some a) next = next a
 
--- the request that a command and its data are, or 11, or 12
+-- the request that a command and its data are: 11 where no row has the command and subcommand, 12 where none of them has the length
 unfoldable pub typed : ℕ → List ℕ → Answered Request
 typed command payload =
-    foundOr 11 (first (named command payload) table) (λ request.
+    foundOr 11 (first (named command payload) table) (λ _.
     foundOr 12 (first (fitting command payload) table) (λ request.
     served (request (carried (row (request 0)) payload))))
 

@@ -7,9 +7,9 @@ use shdlc::Checked;
 use shdlc::Kind;
 use shdlc::Written;
 ghost use mathlib.Core.Path.{_≡_};
-ghost use Prim.Native.Nat.{_+_, _/_, _%_, _^_, _≤_, _<_, min};
+ghost use Prim.Native.Nat.{_+_, _^_, _≤_, _<_, min};
 ghost use mathlib.Core.Bool.{cond};
-ghost use lib.ListN.{length, take, drop};
+ghost use lib.ListN.{length, drop};
 ghost use lib.Ieee.{binary32, toBits, ofBits};
 ghost use Rattle.sfc6.specs.Commands.{withSub, withoutSub, row, table, requestAt, bauds, member, finite, outOfRange, badFloat, addressToAll};
 ghost use Rattle.sfc6.specs.Requests.{checkRequest, subBytes, valueBytes, dataOf, bodyOf, writeRequest};
@@ -135,6 +135,7 @@ pub fn is_finite(bits: u32) -> bool
 // The rates that the line can run at.
 pub const BAUDS: [u32; 5] = [9600, 19200, 38400, 57600, 115200];
 
+// Whether the rate stands in the table.
 fn contains(rates: &[u32], rate: u32) -> bool
     ensures { λ r. ⌜ r ≡ member rate (now (rates .entry)) ⌝ }
 {
@@ -311,12 +312,14 @@ fn put_number(out: &mut [u8], place: usize, n: u32, width: Width) -> usize
     }
 }
 
+// A byte as a number.
 fn wide(b: u8) -> u32
     ensures { λ r. ⌜ (r ≡ b) × (r < 256) ⌝ }
 {
     b as u32
 }
 
+// Writes what a request carries at a place, and answers the place after it.
 fn put_value(out: &mut [u8], place: usize, value: Value) -> usize
     requires { ⌜ place + length (valueBytes value) ≤ length (now out) ⌝ }
     ensures { λ r. ⌜ (r ≡ place + length (valueBytes value)) × (now (out .exit) ≡ overlay (now (out .entry)) place (valueBytes value)) ⌝ }
@@ -330,6 +333,7 @@ fn put_value(out: &mut [u8], place: usize, value: Value) -> usize
     }
 }
 
+// Writes the subcommand, where there is one, and answers the place after it.
 fn put_sub(out: &mut [u8], place: usize, sub: Subcommand) -> usize
     requires { ⌜ place + length (subBytes sub) ≤ length (now out) ⌝ }
     ensures { λ r. ⌜ (r ≡ place + length (subBytes sub)) × (now (out .exit) ≡ overlay (now (out .entry)) place (subBytes sub)) ⌝ }
@@ -343,6 +347,7 @@ fn put_sub(out: &mut [u8], place: usize, sub: Subcommand) -> usize
     }
 }
 
+// How many bytes the subcommand takes, and how many the value.
 fn sub_size(sub: Subcommand) -> usize
     ensures { λ r. ⌜ (r ≡ length (subBytes sub)) × (r ≤ 1) ⌝ }
 {
@@ -396,6 +401,7 @@ pub fn write_request(address: u8, request: Request, out: &mut [u8]) -> Written
     }
     let asked = row_of(request);
     let size = data_size(asked);
+    // No request of the table has so many data bytes; the scope asks for the test in both writers.
     if 255 < size {
         return Written::Refused(Refusal::BodyTooLong);
     }
