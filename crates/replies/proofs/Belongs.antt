@@ -1,13 +1,13 @@
 -- Whether a reply belongs to its request, and the number of its field: each answer from the tests that lead to it. Assumes nothing.
-use mathlib.Core.Path.{_≡_, refl, sym, ap, _∙_}
-use mathlib.Core.Bool.{Bool, true, false, not}
+use mathlib.Core.Path.{_≡_, sym, ap, _∙_}
+use mathlib.Core.Bool.{Bool, true, not}
 use mathlib.Core.List.{List}
 use Prim.Native.Nat.{ℕ, _+_, _%_, _≤_}
 use lib.Dec.{eqb}
 use lib.ListN.{length, getD, take, drop}
 use borrow.Author.Tests.{eq-eqb, ne-eqb}
 use Rattle.refusal.specs.declared.Refusal.{Refusal}
-use Rattle.refusal.specs.Refusals.{Answered, served, refused, paper}
+use Rattle.refusal.specs.Refusals.{Answered, served}
 use Rattle.refusal.proofs.Order.{refused-not-served}
 use Rattle.payload.specs.declared.fields.Field.{Field}
 use Rattle.payload.specs.declared.fields.Field.the-variants.{Value, Refused}

@@ -13,7 +13,6 @@ use Rattle.refusal.specs.Room.{overlay}
 use Rattle.refusal.proofs.Room.{overlay-nothing}
 use Rattle.payload.specs.Field.{bigEndian}
 use Rattle.payload.proofs.Big.{length-big-endian}
-use Rattle.sfc6.specs.Commands.{member}
 use Rattle.replies.specs.declared.Reading.{Reading}
 use Rattle.replies.specs.declared.Reading.the-variants.{Finite, Invalid, PlusInfinity, MinusInfinity}
 use Rattle.replies.specs.declared.Content.{Content}
@@ -84,11 +83,7 @@ module _ (c : Content) (bit7 : Bool) {high : ℕ} (is : high ≡ cond bit7 0x80 
 pub code-small : (c : Content) (code : ℕ) → c ≡ Error code → outOfRange c ≡ false → code ≤ 127
 code-small c code e h = ltb-false _ _ (or-false (eqb code 0) (ltb 127 code) (sym (ap outOfRange e) ∙ h) .1)
 
--- a text in its range
-pub text-short : (c : Content) (text : List ℕ) → c ≡ Text → badText c text ≡ false → length text ≤ 254
-text-short c text e h =
-    ltb-false _ _ (or-false (ltb 254 (length text)) (member 0 text) (sym (ap (λ (x : Content). badText x text) e) ∙ h) .0)
-
+-- whether a text is refused
 module _ (c : Content) (text : List ℕ) (is : c ≡ Text) where
   pub text-long : 254 < length text → true ≡ badText c text
   text-long h = rw is (simp (lt-ltb _ _ h))

@@ -3,29 +3,29 @@ use mathlib.Core.Path.{_≡_, refl, sym, ap, subst, _∙_}
 use mathlib.Core.Bool.{Bool, true, false, cond, not, _||_}
 use mathlib.Core.List.{List, [], _∷_, _++_}
 use mathlib.Core.Option.{Option, none, some}
-use Prim.Native.Nat.{ℕ, _+_, _/_, _%_, _^_, min, _≤_, _<_}
+use Prim.Native.Nat.{ℕ, _/_, _%_, _^_, min, _<_}
 use native.Mathlib.Omega.{arith}
 use lib.Dec.{T, eqb, ltb}
 use lib.ListN.{length, getD}
-use lib.Ieee.{Float, nan, inf, fin, binary32, fits, isNan, toBits, ofBits}
-use lib.Ieee.Bits.{ofBits-toBits, toBits-lt, toBits-ofBits}
-use borrow.Author.Tests.{eq-eqb, ne-eqb, eqb-true, not-false}
+use lib.Ieee.{Float, nan, inf, fin, binary32, isNan, toBits, ofBits}
+use lib.Ieee.Bits.{ofBits-toBits, toBits-lt, toBits-ofBits, nanBits-is}
+use borrow.Author.Tests.{eq-eqb, ne-eqb, eqb-true, eqb-false, ltb-true, ltb-false, not-false}
 use Rattle.refusal.specs.Refusals.{served}
 use Rattle.payload.specs.Field.{big, bigEndian, Bytes}
-use Rattle.payload.proofs.Big.{big-of-big-endian, big-lt, big-endian-of-big, length-big-endian}
+use Rattle.payload.proofs.Big.{big-of-big-endian, big-lt, big-endian-of-big}
 use Rattle.sfc6.specs.declared.Request.{Request}
 use Rattle.sfc6.specs.declared.Request.the-variants as request
 use Rattle.sfc6.specs.declared.Answer.{Answer}
 use Rattle.sfc6.specs.declared.Answer.the-variants as answer
 use Rattle.sfc6.specs.Commands.{row, finite, member}
+use Rattle.sfc6.proofs.Floats.{nan-above, nan-not-above}
 use Rattle.replies.specs.declared.Reading.{Reading}
 use Rattle.replies.specs.declared.Reading.the-variants.{Finite, Invalid, PlusInfinity, MinusInfinity}
 use Rattle.replies.specs.declared.Reply.{Reply}
 use Rattle.replies.specs.declared.Reply.the-variants.{Acknowledged, Setpoint, MeasuredValue, Gain, InitStep, RawFlow, RawConductivity, Temperature, NumberOfCalibrations, Validity, FullScale, Calibration, Address, Baud, ProductType, DeviceError}
-use Rattle.replies.specs.declared.Content.{Content}
 use Rattle.replies.specs.Replies.{bitsOf, readingOf, replyTo, kindOf, contentOf, notFinite, badFloat}
 use Rattle.replies.specs.Writer.{badText, dataOf, codeOf}
-use Rattle.replies.specs.Reader.{sizeOf, isSize, textIn, Got, value, text, gotBy}
+use Rattle.replies.specs.Reader.{sizeOf, isSize, value, text, gotBy}
 use Rattle.replies.specs.ReadBack.{FitsReading, Fits, comesBack}
 use Rattle.replies.proofs.Carried.{or-false}
 use Rattle.replies.proofs.Text.{text-kept}
@@ -74,6 +74,39 @@ pattern-back n h = go (eqb n 0xFFFFFFFF) (eqb n 0x7F800000) (eqb n 0xFF800000) r
     go false true z p q r g = sym (eqb-true n 0x7F800000 q)
     go false false true p q r g = sym (eqb-true n 0xFF800000 r)
     go false false false p q r g = toBits-ofBits binary32 n h (not-nan (ofBits binary32 n) g)
+
+flipped : (n k : ℕ) → eqb n k ≡ false → eqb k n ≡ false
+flipped n k e = ne-eqb k n (λ h. eqb-false n k e (sym h))
+
+or-nothing : (b : Bool) → (b || false) ≡ b
+or-nothing true = refl
+or-nothing false = refl
+
+-- and it is refused just where it is neither finite nor one of the three codings: "other non-finite patterns are 13"
+nan-not-finite : (n : ℕ) → 0x7F800000 < n % 0x80000000 → finite n ≡ false
+nan-not-finite n h = let e : n / 0x800000 % 256 ≡ 255 = omega arith in rw e
+
+nan-or-not : (n : ℕ) → n < 2 ^ 32 → not (finite (toBits binary32 (ofBits binary32 n))) ≡ not (finite n)
+unfolding toBits
+nan-or-not n h = go (ltb 0x7F800000 (n % 0x80000000)) refl
+  where
+    go : (t : Bool) → ltb 0x7F800000 (n % 0x80000000) ≡ t → not (finite (toBits binary32 (ofBits binary32 n))) ≡ not (finite n)
+    go true e = let l = ltb-true 0x7F800000 (n % 0x80000000) e in rw (nan-above n l, nan-not-finite n l)
+    go false e =
+        let l = ltb-false 0x7F800000 (n % 0x80000000) e in
+        let k : isNan (ofBits binary32 n) ≡ false = sym (nanBits-is binary32 n) ∙ nan-not-above n l in
+        ap (λ (b : ℕ). not (finite b)) (toBits-ofBits binary32 n h (subst (λ (b : Bool). T (not b)) (sym k) tt))
+
+pub bad-pattern : (n : ℕ) → n < 2 ^ 32 → notFinite (readingOf n) ≡ not (finite n || member n (0xFFFFFFFF ∷ 0x7F800000 ∷ 0xFF800000 ∷ []))
+bad-pattern n h = go (eqb n 0xFFFFFFFF) (eqb n 0x7F800000) (eqb n 0xFF800000) refl refl refl
+  where
+    go : (x y z : Bool) → eqb n 0xFFFFFFFF ≡ x → eqb n 0x7F800000 ≡ y → eqb n 0xFF800000 ≡ z
+        → notFinite (readingOf n) ≡ not (finite n || member n (0xFFFFFFFF ∷ 0x7F800000 ∷ 0xFF800000 ∷ []))
+    go true y z p q r = let e = eqb-true n 0xFFFFFFFF p in rw e refl
+    go false true z p q r = let e = eqb-true n 0x7F800000 q in rw e refl
+    go false false true p q r = let e = eqb-true n 0xFF800000 r in rw e refl
+    go false false false p q r =
+        simp (p, q, r, flipped n 0xFFFFFFFF p, flipped n 0x7F800000 q, flipped n 0xFF800000 r) (nan-or-not n h ∙ ap not (sym (or-nothing (finite n))))
 
 -- ---- the replies by the number of their kind: one table between requests and replies
 abbrev replyAt : ℕ → ℕ → Reply

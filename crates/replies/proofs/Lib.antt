@@ -11,3 +11,4 @@ pub mod Kept
 pub mod Written
 pub mod Rewritten
 pub mod ReadBack
+pub mod OneToOne

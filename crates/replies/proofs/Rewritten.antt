@@ -9,12 +9,11 @@ use native.Mathlib.Omega.{arith}
 use lib.Dec.{T, eqb, ltb, leb}
 use lib.ListN.{length, getD, take, drop, length-append, length-take, length-drop}
 use lib.Seq.{getD-drop, take-take}
-use borrow.Author.Tests.{lt-ltb, le-ltb, leb-true, leb-false, eq-eqb, eqb-true, eqb-false, ltb-false, not-false, not-true}
+use borrow.Author.Tests.{lt-ltb, le-ltb, leb-true, leb-false, eqb-true, ltb-false, not-false}
 use Rattle.refusal.specs.Refusals.{Numbered, number, _carrying_, numberIn, Answered, served, refused, inOrder}
 use Rattle.refusal.specs.Room.{overlay, emit}
 use Rattle.refusal.proofs.Order.{passed}
 use Rattle.shdlc.specs.declared.Kind.the-variants as kind
-use Rattle.shdlc.specs.Stuffing.{stuff}
 use Rattle.shdlc.specs.Body.{bodyChecks, checkBody}
 use Rattle.shdlc.specs.Frame.{withChecksum, frameOf}
 use Rattle.shdlc.proofs.Body.{Passes, passes, checked-body}
@@ -31,14 +30,14 @@ use Rattle.replies.specs.declared.Content.{Content}
 use Rattle.replies.specs.declared.Content.the-variants.{Nothing, Float, U16, U32, Validity, Address, Baud, Text, Error}
 use Rattle.replies.specs.Replies.{replyTo, kindOf, suits, contentOf, outOfRange, badFloat}
 use Rattle.replies.specs.Writer.{badText, dataOf, codeOf, stateOf, bodyOf, frameFor, writeChecks, frameToWrite, writeReply}
-use Rattle.replies.specs.Reader.{codeIn, bit7In, lengthIn, dataIn, sizeOf, isSize, foreign, textIn, Got, value, text, gotBy, valueChecks, readChecks, answerTo, reported, withBit7, readReply}
+use Rattle.replies.specs.Reader.{codeIn, bit7In, lengthIn, dataIn, sizeOf, isSize, foreign, textIn, Got, value, text, gotBy, valueChecks, readChecks, answerTo, reported, readReply}
 use Rattle.replies.specs.ReadBack.{wire}
 use Rattle.replies.proofs.Carried.{or-false}
 use Rattle.replies.proofs.Taking.{same-kind}
 use Rattle.replies.proofs.Text.{text-clean, text-first, text-no-longer}
 use Rattle.replies.proofs.Writing.{frame}
 use Rattle.replies.proofs.Answers.{contentFrom, content-from, Without, not-number, got, lengths}
-use Rattle.replies.proofs.Kept.{same-kind-of-reply, empty, Again, again}
+use Rattle.replies.proofs.Kept.{same-kind-of-reply, empty, again}
 use Rattle.replies.proofs.Written.{Accepted, to-write}
 
 nothing-said : {A : Type 0} {b : Bool} → none ≡ some b → A

@@ -1,9 +1,9 @@
 -- Writing a reply: each answer of the definition, from the tests that lead to it. Assumes nothing.
 use mathlib.Core.Path.{_≡_, refl, sym, ap, _∙_}
 use mathlib.Core.Bool.{Bool, true, false, cond, not}
-use mathlib.Core.List.{List, [], _∷_, _++_}
+use mathlib.Core.List.{List, [], _∷_}
 use Prim.Native.Nat.{ℕ, _+_, _≤_, _<_}
-use lib.Dec.{eqb, ltb}
+use lib.Dec.{ltb}
 use lib.ListN.{length, take}
 use borrow.Author.Tests.{eq-eqb, ne-eqb, lt-ltb, le-ltb}
 use Rattle.refusal.specs.declared.Refusal.{Refusal}
@@ -11,7 +11,7 @@ use Rattle.refusal.specs.Refusals.{Numbered, number, Answered, served, refused,
 use Rattle.refusal.specs.Room.{overlay}
 use Rattle.shdlc.specs.declared.Checked.{Checked}
 use Rattle.shdlc.specs.declared.Checked.the-variants as checked
-use Rattle.shdlc.specs.Frame.{frameOf, writeFrame}
+use Rattle.shdlc.specs.Frame.{writeFrame}
 use Rattle.sfc6.specs.declared.Request.{Request}
 use Rattle.sfc6.specs.declared.Row.{Row}
 use Rattle.sfc6.specs.Commands.{row}

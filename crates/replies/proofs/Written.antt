@@ -3,8 +3,8 @@ use mathlib.Core.Path.{_≡_, refl, sym, ap, subst, _∙_}
 use mathlib.Core.Logic.{⊎-elim}
 use mathlib.Core.Bool.{Bool, true, false, cond, not, _||_}
 use mathlib.Core.List.{List, [], _∷_, _++_, map, append-assoc}
-use mathlib.Core.Option.{Option, none, some}
-use Prim.Native.Nat.{ℕ, _+_, _-_, _%_, _≤_, _<_}
+use mathlib.Core.Option.{Option, some}
+use Prim.Native.Nat.{ℕ, _+_, _-_, _%_, _≤_}
 use native.Mathlib.Omega.{arith}
 use lib.Dec.{eqb, ltb, leb}
 use lib.ListN.{length, getD, take, drop, length-append}
@@ -17,14 +17,14 @@ use Rattle.shdlc.specs.declared.Kind.the-variants as kind
 use Rattle.shdlc.specs.declared.Checked.the-variants as checked
 use Rattle.shdlc.specs.Checksum.{checksumOf}
 use Rattle.shdlc.specs.Body.{checkBody}
-use Rattle.shdlc.specs.Frame.{withChecksum, frameOf}
+use Rattle.shdlc.specs.Frame.{withChecksum}
 use Rattle.shdlc.specs.Stream.{byte, items}
 use Rattle.shdlc.proofs.Body.{good-body}
 use Rattle.shdlc.proofs.Stream.{frame-items}
-use Rattle.payload.specs.Field.{big, bigEndian}
+use Rattle.payload.specs.Field.{big}
 use Rattle.sfc6.specs.declared.Request.{Request}
 use Rattle.sfc6.specs.declared.Row.{Row}
-use Rattle.sfc6.specs.Commands.{row, member}
+use Rattle.sfc6.specs.Commands.{row}
 use Rattle.sfc6.specs.Requests.{requestChecks, checkRequest, lay}
 use Rattle.sfc6.proofs.Order.{never, first-refuses, then-more, passes-or-refuses, serves-it}
 use Rattle.sfc6.proofs.Writing.{take-overlay}
@@ -37,10 +37,10 @@ use Rattle.replies.specs.Replies.{replyTo, kindOf, suits, contentOf, out
 use Rattle.replies.specs.Writer.{badText, dataOf, codeOf, stateOf, bodyOf, frameFor, writeChecks, frameToWrite, writeReply}
 use Rattle.replies.specs.Reader.{codeIn, bit7In, lengthIn, dataIn, sizeOf, isSize, foreign, Got, gotBy, valueChecks, withBit7, readReply}
 use Rattle.replies.specs.ReadBack.{Fits, comesBack}
-use Rattle.replies.proofs.Carried.{or-false, text-short}
+use Rattle.replies.proofs.Carried.{or-false}
 use Rattle.replies.proofs.Writing.{frame}
 use Rattle.replies.proofs.Answers.{ofData, reply-15, data-read}
-use Rattle.replies.proofs.Kept.{Back, back}
+use Rattle.replies.proofs.Kept.{back}
 
 -- ---- checks that pass
 -- checks followed by more pass where both do

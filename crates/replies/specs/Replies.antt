@@ -1,7 +1,6 @@
 -- 01, Commands of the SFC6 family: which reply answers which request, what a reply carries, and the rules of its values.
 use Prim.Native.Nat.{ℕ, min}
-use mathlib.Core.Bool.{Bool, true, false, cond, not, _||_}
-use mathlib.Core.List.{[], _∷_}
+use mathlib.Core.Bool.{Bool, false, cond, not, _||_}
 use lib.Dec.{ltb, eqb}
 use lib.Ieee.{binary32, toBits, ofBits}
 use Rattle.sfc6.specs.Commands.{bauds, member, finite}
@@ -14,20 +13,20 @@ use Rattle.replies.specs.declared.Reply.the-variants.{Acknowledged, Setp
 use Rattle.replies.specs.declared.Content.{Content}
 use Rattle.replies.specs.declared.Content.the-variants as content
 
--- "FFFFFFFF invalid, 7F800000 plus infinity, FF800000 minus infinity"; a finite value goes by its own bits
+-- 01, Commands of the SFC6 family: "FFFFFFFF invalid, 7F800000 plus infinity, FF800000 minus infinity"; a finite value goes by its own bits
 abbrev pub bitsOf : Reading → ℕ
 bitsOf (Finite x) = toBits binary32 x
 bitsOf Invalid = 0xFFFFFFFF
 bitsOf PlusInfinity = 0x7F800000
 bitsOf MinusInfinity = 0xFF800000
 
--- and back: any other pattern is a carried value, which `notFinite` refuses where its exponent bits are all ones
+-- and back: any other pattern is a carried value, which 13 then refuses where it is not finite (the law `bad-pattern` of proofs/)
 abbrev pub readingOf : ℕ → Reading
 readingOf bits =
     cond (eqb bits 0xFFFFFFFF) Invalid
     (cond (eqb bits 0x7F800000) PlusInfinity (cond (eqb bits 0xFF800000) MinusInfinity (Finite (ofBits binary32 bits))))
 
--- the reply that answers a request, of the number that its data stand for; a number is cut to the largest that its type holds
+-- 01, Commands of the SFC6 family, the table: the reply that answers a request, of the number that its data stand for; a number is cut to the largest that its type holds
 abbrev pub replyTo : Request → ℕ → Reply
 replyTo request.GetSetpoint n = Setpoint (readingOf n)
 replyTo (request.SetSetpoint x) n = Acknowledged
@@ -51,7 +50,7 @@ replyTo request.GetBaud n = Baud n
 replyTo (request.SetBaud rate) n = Acknowledged
 replyTo request.ProductType n = ProductType
 
--- the kinds of replies by number, to tell them apart
+-- the kinds of replies by number, so that two of them can be compared; 15 is an error answer
 abbrev pub kindOf : Reply → ℕ
 kindOf Acknowledged = 0
 kindOf (Setpoint x) = 1
@@ -70,11 +69,11 @@ kindOf (Baud rate) = 13
 kindOf ProductType = 14
 kindOf (DeviceError code) = 15
 
--- "A reply of the expected kind", or an error answer, which "suits every kind"
+-- 01, Commands of the SFC6 family: "A reply of the expected kind", or an error answer, which "suits every kind"
 abbrev pub suits : Request → Reply → Bool
 suits request reply = eqb (kindOf reply) 15 || eqb (kindOf reply) (kindOf (replyTo request 0))
 
--- what a reply carries: the table's column Reply
+-- 01, Commands of the SFC6 family, the table: what a reply carries, the column Reply
 abbrev pub contentOf : Reply → Content
 contentOf Acknowledged = content.Nothing
 contentOf (Setpoint x) = content.Float x
@@ -93,7 +92,7 @@ contentOf (Baud rate) = content.Baud rate
 contentOf ProductType = content.Text
 contentOf (DeviceError code) = content.Error code
 
--- row 12, "a value out of its range": validity is 0 or 1, an address 0 to 254, a baud one of the five, an error code 1 to 127
+-- 01, Refusal numbers, row 12, "a value out of its range": validity is 0 or 1, an address 0 to 254, a baud one of the five, an error code 1 to 127
 abbrev pub outOfRange : Content → Bool
 outOfRange content.Nothing = false
 outOfRange (content.Float x) = false
@@ -105,14 +104,14 @@ outOfRange (content.Baud rate) = not (member rate bauds)
 outOfRange content.Text = false
 outOfRange (content.Error code) = eqb code 0 || ltb 127 code
 
--- "any carried float that is not finite", also one whose bits are those of a coding
+-- 01, Commands of the SFC6 family: "any carried float that is not finite", also one whose bits are those of a coding
 abbrev pub notFinite : Reading → Bool
 notFinite (Finite x) = not (finite (toBits binary32 x))
 notFinite Invalid = false
 notFinite PlusInfinity = false
 notFinite MinusInfinity = false
 
--- row 13, "float not allowed there"
+-- 01, Refusal numbers, row 13, "float not allowed there"
 abbrev pub badFloat : Content → Bool
 badFloat content.Nothing = false
 badFloat (content.Float x) = notFinite x

@@ -15,7 +15,7 @@ use Rattle.replies.specs.declared.Content.{Content}
 use Rattle.replies.specs.declared.Content.the-variants.{Nothing, Float, U16, U32, Validity, Address, Baud, Text, Error}
 use Rattle.replies.specs.Replies.{bitsOf, suits, contentOf, outOfRange, badFloat}
 
--- "text holding 00 or over 254 bytes is 12; beside any other reply, text is not looked at"
+-- 01, Commands of the SFC6 family: "text holding 00 or over 254 bytes is 12; beside any other reply, text is not looked at"
 abbrev pub badText : Content → List ℕ → Bool
 badText Nothing text = false
 badText (Float x) text = false
@@ -27,7 +27,7 @@ badText (Baud rate) text = false
 badText Text text = ltb 254 (length text) || member 0 text
 badText (Error code) text = false
 
--- the data: "Numbers are big-endian." A float goes by its bits, a string "with exactly one 00 at the end", an error with L = 0
+-- 01, Commands of the SFC6 family: "Numbers are big-endian." A float goes by its bits, a string "with exactly one 00 at the end", an error with L = 0
 abbrev pub dataOf : Content → List ℕ → List ℕ
 dataOf Nothing text = []
 dataOf (Float x) text = bigEndian 4 (bitsOf x)
@@ -39,7 +39,7 @@ dataOf (Baud rate) text = bigEndian 4 rate
 dataOf Text text = text ++ (0 ∷ [])
 dataOf (Error code) text = []
 
--- the error code, 0 for none: it is the low 7 bits of the state
+-- the error code that goes into the low 7 bits of the state: 0 is no error
 abbrev pub codeOf : Content → ℕ
 codeOf Nothing = 0
 codeOf (Float x) = 0
@@ -51,7 +51,7 @@ codeOf (Baud rate) = 0
 codeOf Text = 0
 codeOf (Error code) = code
 
--- "Bit 7 is given to the writer too."
+-- 01, Commands of the SFC6 family: "Bit 7 is given to the writer too."
 abbrev pub stateOf : Content → Bool → ℕ
 stateOf content bit7 = codeOf content + cond bit7 0x80 0
 
@@ -63,7 +63,7 @@ bodyOf address command state payload = address ∷ command ∷ state ∷ length 
 unfoldable pub frameFor : ℕ → ℕ → Content → List ℕ → Bool → List ℕ
 frameFor address command content text bit7 = frameOf (bodyOf address command (stateOf content bit7) (dataOf content text))
 
--- "Order": the request's own 12, 13, 10; "writing one with 14, 12, 13, 5, 1". "any other kind offered to a writer is 14, as is any
+-- 01, Refusal numbers, "Order": the request's own 12, 13, 10; "writing one with 14, 12, 13, 5, 1". "any other kind offered to a writer is 14, as is any
 -- reply to 255". "Number 5 is tested in both writers, for data over 255 bytes."
 abbrev pub writeChecks : ℕ → Request → Reply → List ℕ → List (Bool × Numbered)
 writeChecks address request reply text =
@@ -73,6 +73,7 @@ writeChecks address request reply text =
     ∷ (ltb 255 (length (dataOf (contentOf reply) text)), number 5)
     ∷ []
 
+-- the frame of a reply that is not refused
 unfoldable pub frameToWrite : ℕ → Request → Reply → List ℕ → Bool → Answered (List ℕ)
 frameToWrite address request reply text bit7 =
     inOrder (requestChecks address request ++ writeChecks address request reply text)

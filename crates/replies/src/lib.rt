@@ -108,6 +108,7 @@ fn reading_of(bits: u32) -> Reading
     }
 }
 
+// A number cut to the largest that two bytes hold, and one byte. Data of the table's length are never cut.
 fn cut_u16(n: u32) -> u16
     ensures { λ r. ⌜ r ≡ min n 65535 ⌝ }
 {
@@ -149,6 +150,7 @@ fn reply_to(request: Request, n: u32) -> Reply
     }
 }
 
+// What a reply carries.
 fn content_of(reply: Reply) -> Content
     ensures { λ r. ⌜ r ≡ contentOf reply ⌝ }
 {
@@ -172,7 +174,7 @@ fn content_of(reply: Reply) -> Content
     }
 }
 
-// 12: a value out of its range.
+// 12: a value out of its range. Validity is 0 or 1, an address at most 254, a baud one of the five, an error code 1 to 127.
 fn out_of_range(content: Content) -> bool
     ensures { λ r. ⌜ r ≡ outOfRange content ⌝ }
 {
@@ -189,6 +191,7 @@ fn out_of_range(content: Content) -> bool
     }
 }
 
+// Whether a reading carries a float that is not finite, also one whose bits are those of a coding.
 fn not_finite(x: Reading) -> bool
     ensures { λ r. ⌜ r ≡ notFinite x ⌝ }
 {
@@ -342,6 +345,7 @@ fn take(request: Request, reply: Reply) -> Taken
     }
 }
 
+// A u8 and a u16 as a u32.
 fn wide8(n: u8) -> u32
     ensures { λ r. ⌜ (r ≡ n) × (r < 0x100) ⌝ }
 {
@@ -425,6 +429,7 @@ fn put_data(out: &mut [u8], place: usize, content: Content, text: &[u8]) -> usiz
     }
 }
 
+// Bit 7 of the state.
 fn high(bit7: bool) -> u8
     ensures { λ r. ⌜ (r ≡ cond bit7 0x80 0) × (r ≤ 128) ⌝ }
 {

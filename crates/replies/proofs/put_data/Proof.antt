@@ -1,7 +1,7 @@
 -- `replies::put_data` meets its contract: each arm knows what is carried. Assumes nothing.
 use borrow.Author.Needs.{needs}
 use native.Mathlib.Omega.{arith}
-use mathlib.Core.Path.{refl, sym}
+use mathlib.Core.Path.{refl}
 use mathlib.Core.List.{[], _∷_}
 use lib.ListN.{length-append}
 use Rattle.payload.specs.Field.{bigEndian}

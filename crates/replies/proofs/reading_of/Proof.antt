@@ -1,6 +1,6 @@
 -- `replies::reading_of` meets its contract. Assumes nothing.
 use borrow.Author.Needs.{needs}
-use mathlib.Core.Path.{ap, _∙_}
+use mathlib.Core.Path.{ap}
 use borrow.Author.Tests.{ne-eqb}
 use Rattle.replies.specs.declared.Reading.the-variants.{Finite}
 use Rattle.replies.proofs.reading_of.Statement.{statement}

@@ -1,9 +1,8 @@
 -- `replies::take` meets its contract: each arm knows the request, and each `let .. else` which kind the reply is. Assumes nothing.
 use borrow.Author.Needs.{needs}
-use mathlib.Core.Path.{_≡_, refl, sym, ap, _∙_}
+use mathlib.Core.Path.{refl, sym, ap}
 use Prim.Native.Nat.{ℕ}
 use Rattle.sfc6.specs.declared.Request.{Request}
-use Rattle.replies.specs.declared.Reply.{Reply}
 use Rattle.replies.specs.Replies.{replyTo, kindOf}
 use Rattle.replies.proofs.Apart.{set-answer}
 use Rattle.replies.proofs.Taking.{error-taken, taken, other}

@@ -1,7 +1,6 @@
 -- `replies::write_content` meets its contract: the body is laid down part by part. Assumes nothing.
 use borrow.Author.Needs.{needs}
 use mathlib.Core.Path.{sym}
-use native.Mathlib.Omega.{arith}
 use lib.Seq.{length-take-le}
 use Rattle.replies.proofs.Writing.{content-long, content-written}
 use Rattle.replies.proofs.write_content.Statement.{statement}
