@@ -1,4 +1,5 @@
--- Which variant a reply or a request is not: what the `else` of a `let .. else` and an arm of several variants know. Assumes nothing.
+-- Which variant a reply or a request is not: what the `else` of a `let .. else` and an arm of several variants know. Assumes
+-- nothing.
 use mathlib.Core.Path.{_≡_, refl, sym, subst, _∙_}
 use mathlib.Core.Bool.{Bool, true, false, cond, _||_}
 use mathlib.Core.List.{List, [], _∷_}

@@ -62,8 +62,8 @@ abbrev pub wire : List ℕ → List ℕ
 wire body = 0x7E ∷ stuff body ++ (0x7E ∷ [])
 
 pub record ReadBack : Type 0 where
-  -- the bytes written are a stream of exactly one item, a frame; its body is read as the same reply with the same bit 7, and the text
-  -- that stands in it is the text written
+  -- the bytes written are a stream of exactly one item, a frame; its body is read as the same reply with the same bit 7, and the
+  -- text that stands in it is the text written
   pub written-then-read : (address : ℕ) (request : Request) (reply : Reply) (words : List ℕ) (bit7 : Bool) → Fits (contentOf reply)
       → (room after : List ℕ) (n : ℕ) → writeReply address request reply words bit7 room ≡ (served n, after)
       → (body : List ℕ)
@@ -81,7 +81,8 @@ pub record ReadBack : Type 0 where
   -- a string that is read: its text is the part of the data before the first 00, and stands at the place that is answered
   pub text-read : (address : ℕ) (request : Request) (body : List ℕ) (place n : ℕ) (bit7 : Bool)
       → readReply address request body ≡ (served (text place n), some bit7) → take n (drop place body) ≡ textIn (dataIn body)
-  -- "a string reply read and written again may change its length": the text with one 00; "255 bytes without 00 are read but not written"
+  -- "a string reply read and written again may change its length": the text with one 00; "255 bytes without 00 are read but not
+  -- written"
   pub text-then-written : (address : ℕ) (request : Request) (body : List ℕ) (place n : ℕ) (bit7 : Bool)
       → readReply address request body ≡ (served (text place n), some bit7) → (room : List ℕ)
       → (n ≤ 254

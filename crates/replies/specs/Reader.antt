@@ -55,8 +55,8 @@ abbrev pub isSize : Option ℕ → ℕ → Bool
 isSize none n = true
 isSize (some size) n = eqb n size
 
--- 01, Commands of the SFC6 family: "Refusal 14 holds if the request went to 255, address or command differs, the error code is non-zero and L is not 0, or the code is
--- zero and the data length is not the table's"
+-- 01, Commands of the SFC6 family: "Refusal 14 holds if the request went to 255, address or command differs, the error code is
+-- non-zero and L is not 0, or the code is zero and the data length is not the table's"
 unfoldable pub foreign : ℕ → Row → List ℕ → Bool
 foreign address r body =
     eqb address 255
@@ -90,7 +90,8 @@ readChecks address request body =
     ∷ (not (eqb (codeIn body) 0) && eqb (lengthIn body) 0, 15 carrying codeIn body)
     ∷ valueChecks (replyTo request (big (dataIn body)))
 
--- 01, Refusal numbers, "Order": the request's own 12, 13, 10; "Reading a reply goes on with 5, 6, 7, 8 over the body", then those above
+-- 01, Refusal numbers, "Order": the request's own 12, 13, 10; "Reading a reply goes on with 5, 6, 7, 8 over the body", then those
+-- above
 unfoldable pub answerTo : ℕ → Request → List ℕ → Answered Got
 answerTo address request body =
     inOrder (requestChecks address request ++ (bodyChecks kind.Reply body ++ readChecks address request body))

@@ -13,7 +13,8 @@ use Rattle.replies.specs.declared.Reply.the-variants.{Acknowledged, Setp
 use Rattle.replies.specs.declared.Content.{Content}
 use Rattle.replies.specs.declared.Content.the-variants as content
 
--- 01, Commands of the SFC6 family: "FFFFFFFF invalid, 7F800000 plus infinity, FF800000 minus infinity"; a finite value goes by its own bits
+-- 01, Commands of the SFC6 family: "FFFFFFFF invalid, 7F800000 plus infinity, FF800000 minus infinity"; a finite value goes by
+-- its own bits
 abbrev pub bitsOf : Reading → ℕ
 bitsOf (Finite x) = toBits binary32 x
 bitsOf Invalid = 0xFFFFFFFF
@@ -26,7 +27,8 @@ readingOf bits =
     cond (eqb bits 0xFFFFFFFF) Invalid
     (cond (eqb bits 0x7F800000) PlusInfinity (cond (eqb bits 0xFF800000) MinusInfinity (Finite (ofBits binary32 bits))))
 
--- 01, Commands of the SFC6 family, the table: the reply that answers a request, of the number that its data stand for; a number is cut to the largest that its type holds
+-- 01, Commands of the SFC6 family, the table: the reply that answers a request, of the number that its data stand for; a number
+-- is cut to the largest that its type holds
 abbrev pub replyTo : Request → ℕ → Reply
 replyTo request.GetSetpoint n = Setpoint (readingOf n)
 replyTo (request.SetSetpoint x) n = Acknowledged
@@ -92,7 +94,8 @@ contentOf (Baud rate) = content.Baud rate
 contentOf ProductType = content.Text
 contentOf (DeviceError code) = content.Error code
 
--- 01, Refusal numbers, row 12, "a value out of its range": validity is 0 or 1, an address 0 to 254, a baud one of the five, an error code 1 to 127
+-- 01, Refusal numbers, row 12, "a value out of its range": validity is 0 or 1, an address 0 to 254, a baud one of the five, an
+-- error code 1 to 127
 abbrev pub outOfRange : Content → Bool
 outOfRange content.Nothing = false
 outOfRange (content.Float x) = false

@@ -27,7 +27,8 @@ badText (Baud rate) text = false
 badText Text text = ltb 254 (length text) || member 0 text
 badText (Error code) text = false
 
--- 01, Commands of the SFC6 family: "Numbers are big-endian." A float goes by its bits, a string "with exactly one 00 at the end", an error with L = 0
+-- 01, Commands of the SFC6 family: "Numbers are big-endian." A float goes by its bits, a string "with exactly one 00 at the end",
+-- an error with L = 0
 abbrev pub dataOf : Content → List ℕ → List ℕ
 dataOf Nothing text = []
 dataOf (Float x) text = bigEndian 4 (bitsOf x)
@@ -63,8 +64,8 @@ bodyOf address command state payload = address ∷ command ∷ state ∷ length 
 unfoldable pub frameFor : ℕ → ℕ → Content → List ℕ → Bool → List ℕ
 frameFor address command content text bit7 = frameOf (bodyOf address command (stateOf content bit7) (dataOf content text))
 
--- 01, Refusal numbers, "Order": the request's own 12, 13, 10; "writing one with 14, 12, 13, 5, 1". "any other kind offered to a writer is 14, as is any
--- reply to 255". "Number 5 is tested in both writers, for data over 255 bytes."
+-- 01, Refusal numbers, "Order": the request's own 12, 13, 10; "writing one with 14, 12, 13, 5, 1". "any other kind offered to a
+-- writer is 14, as is any reply to 255". "Number 5 is tested in both writers, for data over 255 bytes."
 abbrev pub writeChecks : ℕ → Request → Reply → List ℕ → List (Bool × Numbered)
 writeChecks address request reply text =
     (eqb address 255 || not (suits request reply), number 14)

@@ -1,4 +1,5 @@
--- `replies::text_len` meets its contract. The invariant: what was passed, and the text of what is left, is the text. Assumes nothing.
+-- `replies::text_len` meets its contract. The invariant: what was passed, and the text of what is left, is the text. Assumes
+-- nothing.
 use borrow.Author.Needs.{needs}
 use mathlib.Core.Path.{_≡_}
 use Prim.Native.Nat.{_+_, _-_, _≤_}
