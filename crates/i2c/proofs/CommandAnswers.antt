@@ -6,7 +6,8 @@ use lib.ListN.{length, set}
 use lib.Seq.{sets}
 use borrow.Author.Tests.{le-leb, lt-leb}
 use Rattle.refusal.specs.Refusals.{number, served}
-use Rattle.i2c.specs.Answer.{Outcome, store, refuse}
+use Rattle.refusal.specs.Room.{emit}
+use Rattle.i2c.specs.Answer.{Outcome, refuse}
 use Rattle.i2c.specs.Crc.{crcOf}
 use Rattle.i2c.specs.Word.{wordBytes}
 use Rattle.i2c.specs.Command.{alone, _taking_, asked, pair, writeSfc6, liquidBytes}
@@ -17,10 +18,10 @@ use Rattle.i2c.proofs.WordAnswers.{store-none, store-all}
 
 -- bytes of a known count
 module _ (xs lent : List ℕ) where
-  pub no-room : length lent < length xs → refuse (number 1) lent ≡ store xs lent
+  pub no-room : length lent < length xs → refuse (number 1) lent ≡ emit xs lent
   no-room h = sym (store-none xs lent (length xs) refl h)
 
-  pub all-stored : length xs ≤ length lent → (served (length xs), sets lent 0 xs) ≡ store xs lent
+  pub all-stored : length xs ≤ length lent → (served (length xs), sets lent 0 xs) ≡ emit xs lent
   all-stored h = rw (overlay-sets xs lent h) (sym (store-all xs lent (length xs) refl h))
 
 module _ (code : ℕ) (lent : List ℕ) where
@@ -48,7 +49,7 @@ module _ (code : ℕ) (lent : List ℕ) where
       taking-all s t u v w a b d e f h = rw (le-leb x 1000 fine, f, a, b, d, e) (all-stored (pair code ++ wordBytes 0xFF x) lent h)
 
 pub register-all : (code value u v : ℕ) (lent : List ℕ) → u ≡ value / 256 → v ≡ value % 256 → 3 ≤ length lent
-    → (served 3, set (set (set lent 0 code) 1 u) 2 v) ≡ store (code ∷ pair value) lent
+    → (served 3, set (set (set lent 0 code) 1 u) 2 v) ≡ emit (code ∷ pair value) lent
 register-all code value u v lent e f h = rw (e, f) (all-stored (code ∷ pair value) lent h)
 
 -- an arm of a `match`: what holds of the command that the arm is told holds of the command given
@@ -56,6 +57,6 @@ pub sfc6-arm : {command told : Sfc6} (lent : List ℕ) {x : Outcome} → command
     → x ≡ writeSfc6 (asked command) lent
 sfc6-arm lent e p = p ∙ ap (λ (q : Sfc6). writeSfc6 (asked q) lent) (sym e)
 
-pub liquid-arm : {command told : Liquid} (lent : List ℕ) {x : Outcome} → command ≡ told → x ≡ store (liquidBytes told) lent
-    → x ≡ store (liquidBytes command) lent
-liquid-arm lent e p = p ∙ ap (λ (q : Liquid). store (liquidBytes q) lent) (sym e)
+pub liquid-arm : {command told : Liquid} (lent : List ℕ) {x : Outcome} → command ≡ told → x ≡ emit (liquidBytes told) lent
+    → x ≡ emit (liquidBytes command) lent
+liquid-arm lent e p = p ∙ ap (λ (q : Liquid). emit (liquidBytes q) lent) (sym e)

@@ -7,12 +7,13 @@ use native.Mathlib.Nat.{div-add-mod'}
 use native.Mathlib.Numerals.{add-three}
 use native.Mathlib.Omega.{arith}
 use lib.Arith.{digits-div, digits-mod}
-use lib.Dec.{eqb, leb}
+use lib.Dec.{eqb, ltb}
 use lib.ListN.{length, getD, take, drop}
-use lib.Seq.{take-at}
 use borrow.Author.Tests.{eq-eqb, ne-eqb, eqb-true}
 use Rattle.refusal.specs.Refusals.{Numbered, number, served, refused}
-use Rattle.i2c.specs.Answer.{Outcome, refuse, overlay, store}
+use Rattle.refusal.specs.Room.{overlay, emit}
+use Rattle.refusal.proofs.Room.{take-overlay}
+use Rattle.i2c.specs.Answer.{Outcome, refuse}
 use Rattle.i2c.specs.Crc.{crcOf}
 use Rattle.i2c.specs.Word.{wordBytes, bytesOf, wordsOf, Check, allGood, wrongAt, checkWord, later, orElse, firstWrong, noWords, readChecked, readWords, writeWords}
 use Rattle.i2c.proofs.WordLaws.{bytes-count}
@@ -30,7 +31,7 @@ good-back s [] = refl
 good-back s (w ∷ ws) = let e : crcOf s (w / 256 ∷ w % 256 ∷ []) ≡ crcOf s (w / 256 ∷ w % 256 ∷ []) = refl in rw (eq-eqb _ _ e, good-back s ws)
 
 -- some words' bytes, read into any room: the words are stored
-pub read-back : (s w : ℕ) (ws room : List ℕ) → readWords s (bytesOf s (w ∷ ws)) room ≡ store (w ∷ ws) room
+pub read-back : (s w : ℕ) (ws room : List ℕ) → readWords s (bytesOf s (w ∷ ws)) room ≡ emit (w ∷ ws) room
 unfolding readWords noWords readChecked
 read-back s w ws room =
     let n : length (bytesOf s (w ∷ ws)) ≡ suc (length ws) * 3 = bytes-count s (w ∷ ws) in
@@ -45,20 +46,20 @@ never r n e =
     absurd (omega arith)
 
 -- as many places of the lent slice as the answer says hold what was stored
-stored-take : (xs lent : List ℕ) (n : ℕ) (last : List ℕ) → store xs lent ≡ (served n, last) → take n last ≡ xs
-unfolding store overlay
-stored-take xs lent n last = go (leb (length xs) (length lent))
+stored-take : (xs lent : List ℕ) (n : ℕ) (last : List ℕ) → emit xs lent ≡ (served n, last) → take n last ≡ xs
+unfolding emit
+stored-take xs lent n last = go (ltb (length lent) (length xs))
   where
-    go : (t : Bool) → cond {A = Outcome} t (served (length xs), xs ++ drop (length xs) lent) (refuse (number 1) lent) ≡ (served n, last) → take n last ≡ xs
-    go true e =
+    go : (t : Bool) → cond {A = Outcome} t (refuse (number 1) lent) (served (length xs), overlay lent 0 xs) ≡ (served n, last) → take n last ≡ xs
+    go true e = never (number 1) n (ap (λ (o : Outcome). o .0) e)
+    go false e =
         let p : served (length xs) ≡ served n = ap (λ (o : Outcome). o .0) e in
-        let q : length xs ≡ n = cc in
-        ap (take n) (sym (ap (λ (o : Outcome). o .1) e)) ∙ take-at xs (drop (length xs) lent) n q
-    go false e = never (number 1) n (ap (λ (o : Outcome). o .0) e)
+        let q : n ≡ length xs = cc in
+        ap (take n) (sym (ap (λ (o : Outcome). o .1) e)) ∙ rw q (take-overlay lent xs)
 
 -- whatever the writer wrote, read into any room: the words are stored
 pub written-read : (s : ℕ) (ws lent room : List ℕ) (n : ℕ) (last : List ℕ) → writeWords s ws lent ≡ (served n, last)
-    → readWords s (take n last) room ≡ store ws room
+    → readWords s (take n last) room ≡ emit ws room
 unfolding writeWords
 written-read s [] lent room n last e = never (number 16) n (ap (λ (o : Outcome). o .0) e)
 written-read s (w ∷ ws) lent room n last e =

@@ -4,27 +4,23 @@ use mathlib.Core.List.{List, [], _∷_}
 use Prim.Native.Nat.{ℕ, _*_, _/_, _%_, _≤_, _<_}
 use native.Mathlib.Omega.{arith}
 use lib.ListN.{length}
-use borrow.Author.Tests.{eq-eqb, ne-eqb, le-leb, lt-leb}
+use borrow.Author.Tests.{eq-eqb, ne-eqb}
 use Rattle.refusal.specs.Refusals.{number, _carrying_, served}
-use Rattle.i2c.specs.Answer.{overlay, store, refuse}
+use Rattle.refusal.specs.Room.{overlay, emit}
+use Rattle.refusal.proofs.Room.{emit-refused, emit-served}
+use Rattle.i2c.specs.Answer.{refuse}
 use Rattle.i2c.specs.Word.{bytesOf, wordsOf, firstWrong, paperChecked, noWords, readChecked, readWords, writeWords}
 use Rattle.i2c.specs.declared.word.Checked.{Checked}
 use Rattle.i2c.specs.declared.word.Checked.the-variants.{Good, WrongAt}
 use Rattle.i2c.proofs.WordLaws.{words-count, bytes-count}
 
--- storing: too little room, and enough
+-- storing as many as were counted: too little room, and enough
 module _ (xs lent : List ℕ) (n : ℕ) (e : length xs ≡ n) where
-  pub store-none : length lent < n → store xs lent ≡ refuse (number 1) lent
-  unfolding store
-  store-none h =
-      let l : length lent < length xs = omega arith in
-      rw (lt-leb _ _ l)
+  pub store-none : length lent < n → emit xs lent ≡ refuse (number 1) lent
+  store-none h = emit-refused xs lent (omega arith)
 
-  pub store-all : n ≤ length lent → store xs lent ≡ (served n, overlay xs lent)
-  unfolding store
-  store-all h =
-      let l : length xs ≤ length lent = omega arith in
-      rw (le-leb _ _ l, e)
+  pub store-all : n ≤ length lent → emit xs lent ≡ (served n, overlay lent 0 xs)
+  store-all h = emit-served xs lent (omega arith) ∙ rw e
 
 -- reading words
 module _ (s : ℕ) (bs lent : List ℕ) where
@@ -47,14 +43,14 @@ module _ (s : ℕ) (bs lent : List ℕ) where
       read-wrong k e = rw e at judged
 
       module _ (good : r ≡ Good) where
-        stored : store (wordsOf bs) lent ≡ readWords s bs lent
+        stored : emit (wordsOf bs) lent ≡ readWords s bs lent
         unfolding readChecked
         stored = rw good at judged
 
         pub read-no-room : length lent < length bs / 3 → refuse (number 1) lent ≡ readWords s bs lent
         read-no-room h = sym (store-none (wordsOf bs) lent (length bs / 3) (words-count bs) h) ∙ stored
 
-        pub read-all : {last : List ℕ} → length bs / 3 ≤ length lent → last ≡ overlay (wordsOf bs) lent → (served (length bs / 3), last) ≡ readWords s bs lent
+        pub read-all : {last : List ℕ} → length bs / 3 ≤ length lent → last ≡ overlay lent 0 (wordsOf bs) → (served (length bs / 3), last) ≡ readWords s bs lent
         read-all h e = rw e (sym (store-all (wordsOf bs) lent (length bs / 3) (words-count bs) h) ∙ stored)
 
 -- writing words
@@ -63,7 +59,7 @@ unfolding writeWords
 write-none s [] lent e = refl
 write-none s (w ∷ ws) lent e = absurd (omega arith)
 
-write-some : (s : ℕ) (ws lent : List ℕ) → (length ws ≡ 0 → ⊥) → store (bytesOf s ws) lent ≡ writeWords s ws lent
+write-some : (s : ℕ) (ws lent : List ℕ) → (length ws ≡ 0 → ⊥) → emit (bytesOf s ws) lent ≡ writeWords s ws lent
 unfolding writeWords
 write-some s [] lent h = absurd (h refl)
 write-some s (w ∷ ws) lent h = refl
@@ -72,5 +68,5 @@ module _ (s : ℕ) (ws lent : List ℕ) (some : length ws ≡ 0 → ⊥) where
   pub write-no-room : length lent / 3 < length ws → refuse (number 1) lent ≡ writeWords s ws lent
   write-no-room h = sym (store-none (bytesOf s ws) lent (length ws * 3) (bytes-count s ws) (omega arith)) ∙ write-some s ws lent some
 
-  pub write-all : {last : List ℕ} → length ws ≤ length lent / 3 → last ≡ overlay (bytesOf s ws) lent → (served (length ws * 3), last) ≡ writeWords s ws lent
+  pub write-all : {last : List ℕ} → length ws ≤ length lent / 3 → last ≡ overlay lent 0 (bytesOf s ws) → (served (length ws * 3), last) ≡ writeWords s ws lent
   write-all h e = rw e (sym (store-all (bytesOf s ws) lent (length ws * 3) (bytes-count s ws) (omega arith)) ∙ write-some s ws lent some)

@@ -8,7 +8,7 @@ use native.Mathlib.Omega.{arith}
 use lib.ListN.{length, getD, drop, set, length-drop, drop-of-length-le}
 use lib.Seq.{drop-cons, sets, sets-eq}
 use borrow.Author.Tests.{eq-eqb, ne-eqb}
-use Rattle.i2c.specs.Answer.{overlay}
+use Rattle.refusal.specs.Room.{overlay}
 use Rattle.i2c.specs.Crc.{crcOf}
 use Rattle.i2c.specs.Word.{wordBytes, bytesOf, wordsOf, Check, allGood, wrongAt, checkWord, later, orElse, firstWrong}
 
@@ -102,9 +102,9 @@ unfolding bytesOf
 bytes-end s ws out i a h p = rw (drop-of-length-le ws h) at p
 
 -- stores one after the other from the start: the new places over the old
-pub overlay-sets : (vs l : List ℕ) → length vs ≤ length l → sets l 0 vs ≡ overlay vs l
+pub overlay-sets : (vs l : List ℕ) → length vs ≤ length l → sets l 0 vs ≡ overlay l 0 vs
 unfolding overlay
-overlay-sets vs l h = sets-eq vs l 0 (omega arith) ∙ ap (λ (n : ℕ). vs ++ drop n l) (zero-add (length vs))
+overlay-sets vs l h = sets-eq vs l 0 (omega arith)
 
 -- how many
 pub words-count : (bs : List ℕ) → length (wordsOf bs) ≡ length bs / 3

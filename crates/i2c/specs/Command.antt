@@ -4,7 +4,8 @@ use mathlib.Core.Bool.{cond}
 use mathlib.Core.List.{List, [], _∷_, _++_}
 use lib.Dec.{leb}
 use Rattle.refusal.specs.Refusals.{number}
-use Rattle.i2c.specs.Answer.{Outcome, refuse, store}
+use Rattle.refusal.specs.Room.{emit}
+use Rattle.i2c.specs.Answer.{Outcome, refuse}
 use Rattle.i2c.specs.Word.{startOf, wordBytes}
 use Rattle.i2c.specs.declared.word.Family.the-variants as family
 use Rattle.i2c.specs.declared.command.Sfc6.{Sfc6}
@@ -34,9 +35,9 @@ pair n = n / 256 ∷ n % 256 ∷ []
 
 -- 01, Words on I2C: a 16-bit command, no CRC; an argument is a word with CRC; a concentration over 1000 is 12
 unfoldable pub writeSfc6 : Asked → List ℕ → Outcome
-writeSfc6 (alone code) lent = store (pair code) lent
+writeSfc6 (alone code) lent = emit (pair code) lent
 writeSfc6 (code taking concentration) lent =
-    cond (leb concentration 1000) (store (pair code ++ wordBytes (startOf family.Sfc6) concentration) lent) (refuse (number 12) lent)
+    cond (leb concentration 1000) (emit (pair code ++ wordBytes (startOf family.Sfc6) concentration) lent) (refuse (number 12) lent)
 
 -- 01, Words on I2C: liquid commands are one byte; register writes carry no CRC
 abbrev pub liquidBytes : Liquid → List ℕ

@@ -5,7 +5,8 @@ use mathlib.Core.List.{List, [], _∷_, _++_}
 use lib.Dec.{eqb}
 use lib.ListN.{length}
 use Rattle.refusal.specs.Refusals.{number, _carrying_}
-use Rattle.i2c.specs.Answer.{Outcome, refuse, store}
+use Rattle.refusal.specs.Room.{emit}
+use Rattle.i2c.specs.Answer.{Outcome, refuse}
 use Rattle.i2c.specs.Crc.{crcOf}
 use Rattle.i2c.specs.declared.word.Family.{Family}
 use Rattle.i2c.specs.declared.word.Family.the-variants.{Liquid, Sfc6}
@@ -71,7 +72,7 @@ noWords bytes = eqb (length bytes) 0 || not (eqb (length bytes % 3) 0)
 -- 01, Words on I2C: every word is checked before any is stored; 17 comes before 1
 unfoldable pub readChecked : Check → List ℕ → List ℕ → Outcome
 readChecked (wrongAt k) bytes lent = refuse (17 carrying k) lent
-readChecked allGood bytes lent = store (wordsOf bytes) lent
+readChecked allGood bytes lent = emit (wordsOf bytes) lent
 
 -- 01, Refusal numbers: reading words 16, 17, 1
 unfoldable pub readWords : ℕ → List ℕ → List ℕ → Outcome
@@ -80,4 +81,4 @@ readWords start bytes lent = cond (noWords bytes) (refuse (number 16) lent) (rea
 -- 01, Refusal numbers: I2C writers 16, 12, 1; no word is out of range
 unfoldable pub writeWords : ℕ → List ℕ → List ℕ → Outcome
 writeWords start [] lent = refuse (number 16) lent
-writeWords start (w ∷ ws) lent = store (bytesOf start (w ∷ ws)) lent
+writeWords start (w ∷ ws) lent = emit (bytesOf start (w ∷ ws)) lent

@@ -7,7 +7,8 @@ use crate::word::pair_crc;
 use refusal::Refusal;
 ghost use mathlib.Core.Path.{_≡_};
 ghost use mathlib.Core.List.{[], _∷_};
-ghost use Rattle.i2c.specs.Answer.{paperStored, store};
+ghost use Rattle.refusal.specs.Room.{emit};
+ghost use Rattle.i2c.specs.Answer.{paperStored};
 ghost use Rattle.i2c.specs.Command.{alone, _taking_, asked, pair, writeSfc6, liquidBytes};
 
 // The SFC6 commands that can be asked for. A concentration is in per mille, 0 to 1000.
@@ -98,7 +99,7 @@ pub fn write_sfc6(command: Sfc6, out: &mut [u8]) -> Stored
 }
 
 fn write_byte(code: u8, out: &mut [u8]) -> Stored
-    ensures { λ r. ⌜ (paperStored r, now (out .exit)) ≡ store (code ∷ []) (now (out .entry)) ⌝ }
+    ensures { λ r. ⌜ (paperStored r, now (out .exit)) ≡ emit (code ∷ []) (now (out .entry)) ⌝ }
 {
     if out.len() < 1 {
         return Stored::Refused(Refusal::NoRoom);
@@ -108,7 +109,7 @@ fn write_byte(code: u8, out: &mut [u8]) -> Stored
 }
 
 fn write_register(code: u8, value: u16, out: &mut [u8]) -> Stored
-    ensures { λ r. ⌜ (paperStored r, now (out .exit)) ≡ store (code ∷ pair value) (now (out .entry)) ⌝ }
+    ensures { λ r. ⌜ (paperStored r, now (out .exit)) ≡ emit (code ∷ pair value) (now (out .entry)) ⌝ }
 {
     if out.len() < 3 {
         return Stored::Refused(Refusal::NoRoom);
@@ -121,7 +122,7 @@ fn write_register(code: u8, value: u16, out: &mut [u8]) -> Stored
 
 // Writes a liquid command.
 pub fn write_liquid(command: Liquid, out: &mut [u8]) -> Stored
-    ensures { λ r. ⌜ (paperStored r, now (out .exit)) ≡ store (liquidBytes command) (now (out .entry)) ⌝ }
+    ensures { λ r. ⌜ (paperStored r, now (out .exit)) ≡ emit (liquidBytes command) (now (out .entry)) ⌝ }
 {
     match command {
         Liquid::WriteUser(value) => write_register(0xE2, value, out),

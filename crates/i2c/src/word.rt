@@ -6,7 +6,8 @@ ghost use mathlib.Core.Path.{_≡_};
 ghost use mathlib.Core.List.{[], _∷_};
 ghost use Prim.Native.Nat.{_+_, _*_, _/_, _%_, _≤_};
 ghost use lib.ListN.{length};
-ghost use Rattle.i2c.specs.Answer.{paperStored, overlay};
+ghost use Rattle.refusal.specs.Room.{overlay};
+ghost use Rattle.i2c.specs.Answer.{paperStored};
 ghost use Rattle.i2c.specs.Crc.{crcOf};
 ghost use Rattle.i2c.specs.Word.{startOf, wordsOf, bytesOf, firstWrong, paperChecked, readWords, writeWords};
 
@@ -80,7 +81,7 @@ fn check_words(start: u8, bytes: &[u8]) -> Checked
 // Stores the words that bytes hold.
 fn store_words(bytes: &[u8], words: &mut [u16])
     requires { ⌜ length (wordsOf (now bytes)) ≤ length (now words) ⌝ }
-    ensures { λ _. ⌜ now (words .exit) ≡ overlay (wordsOf (now (bytes .entry))) (now (words .entry)) ⌝ }
+    ensures { λ _. ⌜ now (words .exit) ≡ overlay (now (words .entry)) 0 (wordsOf (now (bytes .entry))) ⌝ }
 {
     let mut k = 0;
     let mut i = 0;
@@ -116,7 +117,7 @@ pub fn read_words(start: u8, bytes: &[u8], words: &mut [u16]) -> Stored
 // Stores the bytes of words.
 fn store_bytes(start: u8, words: &[u16], out: &mut [u8])
     requires { ⌜ length (now words) * 3 ≤ length (now out) ⌝ }
-    ensures { λ _. ⌜ now (out .exit) ≡ overlay (bytesOf start (now (words .entry))) (now (out .entry)) ⌝ }
+    ensures { λ _. ⌜ now (out .exit) ≡ overlay (now (out .entry)) 0 (bytesOf start (now (words .entry))) ⌝ }
 {
     let mut i = 0;
     let mut o = 0;
