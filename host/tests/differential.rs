@@ -1,0 +1,648 @@
+//! Every exported function against the reference: known answers, all of what can be tried whole, and random cases.
+//!
+//! MFC_SEED or the first argument sets the seed, MFC_ONLY runs the sections whose name holds it, and MFC_PERCENT takes
+//! that share of the random cases (100 is the usual run).
+
+mod cases;
+mod generate;
+mod harness;
+mod interface;
+mod library;
+mod reference;
+mod vectors;
+
+use cases::*;
+use harness::*;
+use interface::Interface;
+use library::Library;
+use reference::*;
+
+fn salt(section: &mut Section) -> u32 {
+    section.random.u32() >> 1
+}
+
+// ---- Checksum and CRC
+
+fn checksum_section(section: &mut Section) {
+    for n in 0..section.times(300_000) {
+        let length = if n % 50 == 0 { section.random.below(5000) } else { section.random.below(270) };
+        let bytes = Hex(generate::some_bytes(&mut section.random, length));
+        let salt = salt(section);
+        section.check(Checksum { bytes, salt });
+    }
+}
+
+fn crc_section(section: &mut Section) {
+    for start in 0..=255 {
+        for byte in 0..=255 {
+            section.check(Crc { start, bytes: Hex(vec![byte]), salt: 0 });
+        }
+    }
+    for word in 0..=u16::MAX {
+        for start in [0x00, 0xFF] {
+            section.check(Crc { start, bytes: Hex(word.to_be_bytes().to_vec()), salt: u32::from(word) });
+        }
+    }
+    for _ in 0..section.times(200_000) {
+        let length = if section.random.one_in(50) { section.random.below(600) } else { section.random.below(40) };
+        let bytes = Hex(generate::some_bytes(&mut section.random, length));
+        let (start, salt) = (section.random.byte(), salt(section));
+        section.check(Crc { start, bytes, salt });
+    }
+}
+
+// ---- Requests
+
+fn write_request_section(section: &mut Section) {
+    for address in 0..=255 {
+        for request in 0..=255 {
+            let random = &mut section.random;
+            let value = generate::value_for(random, generate::request_field(request));
+            section.check(WriteRequest { address, request, value, room: 64, salt: u32::from(address) });
+        }
+    }
+    for _ in 0..section.times(600_000) {
+        let random = &mut section.random;
+        let (address, request) = (generate::address(random), generate::request(random));
+        let value = generate::value_for(random, generate::request_field(request));
+        let needed = request_frame(address, request, value).map_or(12, |frame| frame.len());
+        let room = generate::room(random, needed);
+        let salt = salt(section);
+        section.check(WriteRequest { address, request, value, room, salt });
+    }
+}
+
+/// Every room up to and past what is needed, for every request.
+fn rooms_section(section: &mut Section) {
+    for request in 0..21 {
+        for room in 0..24 {
+            for _ in 0..40 {
+                let random = &mut section.random;
+                let address = generate::address(random);
+                let value = generate::value_for(random, generate::request_field(request));
+                let salt = salt(section);
+                section.check(WriteRequest { address, request, value, room, salt });
+            }
+        }
+    }
+}
+
+fn write_request_at_section(section: &mut Section) {
+    for _ in 0..section.times(400_000) {
+        let random = &mut section.random;
+        let (address, request) = (generate::address(random), generate::request(random));
+        let value = generate::value_for(random, generate::request_field(request));
+        let needed = request_frame(address, request, value).map_or(12, |frame| frame.len());
+        let start = random.below(30);
+        let size = start + generate::room(random, needed);
+        let start = match random.below(12) {
+            0 => size,
+            1 => size + 1,
+            2 => usize::MAX - random.below(40),
+            3 => random.below(size + 40),
+            _ => start,
+        };
+        let salt = salt(section);
+        section.check(WriteRequestAt { size, start, address, request, value, salt });
+    }
+}
+
+fn polling_section(section: &mut Section) {
+    for _ in 0..section.times(100_000) {
+        let salt = salt(section);
+        let round = generate::round(&mut section.random, salt);
+        section.check(round);
+    }
+}
+
+fn read_request_section(section: &mut Section) {
+    for _ in 0..section.times(900_000) {
+        let random = &mut section.random;
+        let near = generate::near_request_body(random);
+        let body = Body(generate::offered_body(random, Kind::Request, near), Kind::Request);
+        let salt = salt(section);
+        section.check(ReadRequest { body, salt });
+    }
+}
+
+/// Every command with every length, a subcommand of the table first; then every command with every first byte.
+fn every_command_section(section: &mut Section) {
+    for command in 0..=255 {
+        for length in 0..=255 {
+            let mut whole = vec![generate::address(&mut section.random), command, length];
+            whole.extend(generate::some_bytes(&mut section.random, usize::from(length)));
+            if length > 0 && length % 4 > 0 {
+                whole[3] = section.random.pick(&[0x00, 0x01, 0x02, 0x03, 0x10, 0x14]);
+            }
+            section.check(ReadRequest { body: Body(body(&whole), Kind::Request), salt: u32::from(length) });
+        }
+        for sub in 0..=255 {
+            for after in [0, 1, 2, 4, 5] {
+                let mut whole = vec![0, command, after + 1, sub];
+                whole.extend(generate::wire_bytes(&mut section.random, usize::from(after)));
+                section.check(ReadRequest { body: Body(body(&whole), Kind::Request), salt: u32::from(sub) });
+            }
+        }
+    }
+}
+
+// ---- Replies
+
+/// A request that a reply may be asked for: mostly good, else with a value of its own to refuse.
+fn asked(random: &mut Random) -> (u8, u8, u32) {
+    let request = generate::request(random);
+    let address = if random.one_in(6) { generate::address(random) } else { random.below(255) as u8 };
+    let value = generate::value_for(random, generate::request_field(request));
+    if request_frame(address, request, value).is_err() && !random.one_in(4) {
+        return (address % 255, random.pick(&[0, 2, 3, 5, 7, 8, 9, 10, 12, 13, 16, 18, 20]), value);
+    }
+    (address, request, value)
+}
+
+fn write_reply_section(section: &mut Section) {
+    for _ in 0..section.times(800_000) {
+        let random = &mut section.random;
+        let (address, request, value) = asked(random);
+        let expected = ROWS.get(usize::from(request)).map_or(0, |row| row.reply);
+        let reply = match random.below(8) {
+            0 => random.below(17) as u8,
+            1 => DEVICE_ERROR,
+            2 => random.byte(),
+            _ => expected,
+        };
+        let field = REPLIES.get(usize::from(reply)).map_or(Field::U32, |field| *field);
+        let reply_value = generate::value_for(random, field);
+        let text = if reply == PRODUCT_TYPE || random.one_in(8) { generate::text(random) } else { Vec::new() };
+        let bit7 = random.pick(&[0, 0, 1, 0x80, 0xFF, 2]);
+        let frame = reply_frame((address, request, value), reply, reply_value, &text, bit7 != 0);
+        let room = generate::room(random, frame.map_or(12, |frame| frame.len()));
+        let salt = salt(section);
+        let text = Hex(text);
+        section.check(WriteReply { address, request, value, reply, reply_value, text, bit7, room, salt });
+    }
+}
+
+/// Every request with every number of a reply.
+fn every_reply_section(section: &mut Section) {
+    for request in 0..=22 {
+        for reply in 0..=255 {
+            for _ in 0..8 {
+                let random = &mut section.random;
+                let address = random.pick(&[0, 1, 0x7E, 254, 255]);
+                let value = generate::value_for(random, generate::request_field(request));
+                let field = REPLIES.get(usize::from(reply)).map_or(Field::U32, |field| *field);
+                let reply_value = generate::value_for(random, field);
+                let (bit7, salt) = (random.below(2) as u8, salt(section));
+                let (text, room) = (Hex(b"text".to_vec()), 40);
+                section.check(WriteReply { address, request, value, reply, reply_value, text, bit7, room, salt });
+            }
+        }
+    }
+}
+
+fn read_reply_section(section: &mut Section) {
+    for _ in 0..section.times(1_000_000) {
+        let random = &mut section.random;
+        let (address, request, value) = asked(random);
+        let near = generate::near_reply_body(random, address, request);
+        let body = Body(generate::offered_body(random, Kind::Reply, near), Kind::Reply);
+        let salt = salt(section);
+        section.check(ReadReply { address, request, value, body, salt });
+    }
+}
+
+/// Every request with every state byte and every short length, and some of every length.
+fn every_state_section(section: &mut Section) {
+    for request in 0..21 {
+        let row = ROWS[usize::from(request)];
+        for state in 0..=255 {
+            for length in (0..8).chain([section.random.below(256) as u8]) {
+                let random = &mut section.random;
+                let value = generate::value_for(random, row.request);
+                let mut whole = vec![9, row.command, state, length];
+                whole.extend(generate::some_bytes(random, usize::from(length)));
+                let salt = salt(section);
+                let body = Body(body(&whole), Kind::Reply);
+                section.check(ReadReply { address: 9, request, value, body, salt });
+            }
+        }
+        for length in 0..=255 {
+            let mut whole = vec![9, row.command, 0, length];
+            whole.extend(generate::some_bytes(&mut section.random, usize::from(length)));
+            let value = if row.request == Field::Baud { 9600 } else { 0 };
+            let body = Body(body(&whole), Kind::Reply);
+            section.check(ReadReply { address: 9, request, value, body, salt: 0 });
+        }
+    }
+}
+
+// ---- The receiver
+
+fn fresh_section(section: &mut Section) {
+    for kind in 0..=255 {
+        for size in [0, 1, 3, 4, 5, 259, 260, 263, 264, 265, 300] {
+            let salt = salt(section);
+            section.check(Fresh { kind, size, salt });
+        }
+    }
+    for size in 0..300 {
+        for kind in 0..3 {
+            section.check(Fresh { kind, size, salt: size as u32 });
+        }
+    }
+}
+
+/// Every stream of a few events from a small alphabet, in one piece and byte by byte.
+fn short_streams_section(section: &mut Section) {
+    const ALPHABET: [Option<u8>; 8] =
+        [Some(0x7E), Some(0x7D), Some(0x11), Some(0x5E), Some(0x33), Some(0x00), Some(0x41), None];
+    for events in 0..6 {
+        for number in 0..ALPHABET.len().pow(events) {
+            let stream: Vec<Option<u8>> = (0..events).map(|at| ALPHABET[number >> (3 * at) & 7]).collect();
+            for kind in 0..2 {
+                for widest in [1, 8] {
+                    section.check(Series { kind, steps: pieces(&stream, widest), salt: number as u32 });
+                }
+            }
+        }
+    }
+}
+
+/// A stream that begins inside a stretch, cut into pieces of a size.
+fn pieces(stream: &[Option<u8>], widest: usize) -> Vec<Step> {
+    let feed = |piece: &[u8]| Step::Feed { piece: Hex(piece.to_vec()), room: 260, again: true };
+    let mut steps = vec![feed(&[DELIMITER])];
+    for (at, part) in stream.split(Option::is_none).enumerate() {
+        if at > 0 {
+            steps.push(Step::Mark);
+        }
+        let bytes: Vec<u8> = part.iter().flatten().copied().collect();
+        steps.extend(bytes.chunks(widest).map(feed));
+    }
+    steps
+}
+
+fn series_section(section: &mut Section) {
+    for _ in 0..section.times(60_000) {
+        let salt = salt(section);
+        let series = generate::series(&mut section.random, salt);
+        section.check(series);
+    }
+}
+
+/// Many frames and faults in one piece, each rest handed in again.
+fn long_pieces_section(section: &mut Section) {
+    for _ in 0..section.times(3_000) {
+        let random = &mut section.random;
+        let kind = random.below(2) as u8;
+        let stream = generate::stream(random, kind_of(kind), 40);
+        let steps = vec![Step::Feed { piece: Hex(stream), room: 260, again: true }];
+        let salt = salt(section);
+        section.check(Series { kind, steps, salt });
+    }
+}
+
+/// Bodies at 258 to 261 bytes and their neighbours, good but for at most one thing, in one piece or two.
+fn largest_section(section: &mut Section) {
+    for n in 0..section.times(40_000) {
+        let random = &mut section.random;
+        let kind = (n % 2) as u8;
+        let size = 256 + n / 2 % 8;
+        let mut stream = wire(&generate::sized_body(random, kind_of(kind), size));
+        if random.one_in(3) {
+            let at = random.between(1, stream.len() - 1);
+            stream.insert(at, random.pick(&generate::STUFFING_BYTES));
+        }
+        let cut = random.below(stream.len());
+        let feed = |piece: &[u8]| Step::Feed { piece: Hex(piece.to_vec()), room: 260, again: true };
+        let steps = vec![feed(&stream[..cut]), feed(&stream[cut..])];
+        let salt = salt(section);
+        section.check(Series { kind, steps, salt });
+    }
+}
+
+/// One call on a record of any kind: those that a stream leaves, and those out of range.
+fn records_section(section: &mut Section) {
+    for _ in 0..section.times(250_000) {
+        let random = &mut section.random;
+        let record = Hex(generate::record(random));
+        let piece = match random.below(6) {
+            0 => vec![DELIMITER],
+            1 => Vec::new(),
+            2 => generate::some_bytes(random, 300),
+            _ => {
+                let n = random.below(16);
+                generate::wire_bytes(random, n)
+            }
+        };
+        let room = random.pick(&[0, 259, 260, 260, 260, 260, 260, 300]);
+        let salt = salt(section);
+        if section.random.one_in(4) {
+            section.check(Silence { record, salt });
+        } else {
+            section.check(Feed { record, piece: Hex(piece), room, salt });
+        }
+    }
+}
+
+/// Every kind and mode around their ranges with every length around its own, and every value of each field alone.
+fn ranges_section(section: &mut Section) {
+    let pieces: [&[u8]; 6] = [&[], &[0x7E], &[0x00], &[0x5E, 0x7E], &[0x7D, 0x7E], &[0x11]];
+    for kind in 0..3 {
+        for mode in 0..6 {
+            for length in (0..12).chain(250..270).chain([511, 512, 517, 0xFF00, 0xFFFF]) {
+                let mut record = generate::wire_bytes(&mut section.random, RECORD);
+                record[..4].copy_from_slice(&[kind, mode, (length >> 8) as u8, length as u8]);
+                for piece in pieces {
+                    for room in [259, 260] {
+                        let (record, piece) = (Hex(record.clone()), Hex(piece.to_vec()));
+                        section.check(Feed { record, piece, room, salt: length as u32 });
+                    }
+                }
+                section.check(Silence { record: Hex(record), salt: length as u32 });
+            }
+        }
+    }
+    for field in 0..4 {
+        for byte in 0..=255 {
+            let mut record = vec![0; RECORD];
+            record[1] = 1;
+            record[field] = byte;
+            section.check(Feed { record: Hex(record.clone()), piece: Hex(vec![0x7E]), room: 260, salt: 0 });
+            section.check(Silence { record: Hex(record), salt: 0 });
+        }
+    }
+}
+
+// ---- What is written is read back
+
+/// The items of one written frame, by the library's receiver.
+fn body_by_library(section: &mut Section, kind: u8, frame: &[u8]) -> Vec<u8> {
+    let library = Library { null_for_empty: false };
+    let (mut record, mut buffer) = ([0; RECORD], [0; STORE]);
+    library.receiver_fresh(kind, &mut record);
+    let fed = library.feed(&mut record, frame, &mut buffer);
+    section.expect("a written frame is taken whole", (0, frame.len()), (fed.refusal, fed.taken));
+    buffer[..fed.frame_length].to_vec()
+}
+
+fn requests_round_trip(section: &mut Section) {
+    let library = Library { null_for_empty: false };
+    for _ in 0..section.times(100_000) {
+        let random = &mut section.random;
+        let (address, request) = (generate::address(random), generate::request(random));
+        let value = generate::value_for(random, generate::request_field(request));
+        let mut out = [0; 32];
+        let written = library.write_request(address, request, value, &mut out);
+        if written.refusal == 0 {
+            let body = body_by_library(section, 0, &out[..written.length]);
+            let carried = if generate::request_field(request) == Field::Nothing { 0 } else { value };
+            let expected = interface::Request { refusal: 0, address, request, value: carried };
+            section.expect("a written request is read back", expected, library.read_request(&body));
+        }
+    }
+}
+
+fn replies_round_trip(section: &mut Section) {
+    let library = Library { null_for_empty: false };
+    for _ in 0..section.times(100_000) {
+        let random = &mut section.random;
+        let (address, request, value) = asked(random);
+        let reply = ROWS.get(usize::from(request)).map_or(0, |row| row.reply);
+        let reply = if random.one_in(6) { DEVICE_ERROR } else { reply };
+        let field = REPLIES[usize::from(reply)];
+        let (reply_value, text) = (generate::value_for(random, field), generate::text(random));
+        let bit7 = random.below(2) as u8;
+        let mut out = [0; 600];
+        let written = library.write_reply(address, request, value, reply, reply_value, &text, bit7, &mut out);
+        if written.refusal == 0 {
+            let body = body_by_library(section, 1, &out[..written.length]);
+            let plain = interface::Reply { bit7, reply, value: reply_value, ..Default::default() };
+            let expected = match field {
+                Field::Nothing => interface::Reply { value: 0, ..plain },
+                Field::Text => interface::Reply { value: 0, text_start: 4, text_length: text.len(), ..plain },
+                Field::ErrorCode => {
+                    interface::Reply { refusal: 15, code: reply_value as u8, bit7, ..Default::default() }
+                }
+                _ => plain,
+            };
+            section.expect("a written reply is read back", expected, library.read_reply(address, request, value, &body));
+        }
+    }
+}
+
+// ---- Words on I2C
+
+/// All 65,536 words in both families: good, every single bit wrong, the other family's CRC.
+fn every_word_section(section: &mut Section) {
+    for value in 0..=u16::MAX {
+        for start in [0x00, 0xFF] {
+            let good = word(start, value);
+            let salt = u32::from(value);
+            section.check(WriteWords { start, words: vec![value], room: 3, salt });
+            section.check(ReadWords { start, bytes: Hex(good.to_vec()), room: 1, salt });
+            section.check(ReadWords { start: !start, bytes: Hex(good.to_vec()), room: 1, salt });
+            for bit in 0..24 {
+                let mut bytes = good;
+                bytes[bit / 8] ^= 1 << (bit % 8);
+                section.check(ReadWords { start, bytes: Hex(bytes.to_vec()), room: 1, salt });
+            }
+        }
+    }
+}
+
+fn read_words_section(section: &mut Section) {
+    for _ in 0..section.times(300_000) {
+        let random = &mut section.random;
+        let start = random.pick(&[0x00, 0xFF, 0xFF, 0x81]) ^ if random.one_in(8) { random.byte() } else { 0 };
+        let n = if random.one_in(20) { random.below(90) } else { random.below(8) };
+        let mut bytes: Vec<u8> = (0..n).flat_map(|_| word(start, random.u16())).collect();
+        match random.below(6) {
+            0 | 1 => {}
+            2 => bytes = generate::changed(random, &bytes),
+            3 => bytes.truncate(bytes.len().saturating_sub(random.below(4))),
+            4 => bytes.iter_mut().skip(3).step_by(3).for_each(|byte| *byte ^= 1),
+            _ => bytes.iter_mut().skip(2).step_by(3).for_each(|byte| *byte ^= u8::from(random.one_in(3))),
+        }
+        let room = generate::room(random, n);
+        let salt = salt(section);
+        section.check(ReadWords { start, bytes: Hex(bytes), room, salt });
+    }
+}
+
+fn write_words_section(section: &mut Section) {
+    for _ in 0..section.times(200_000) {
+        let random = &mut section.random;
+        let start = if random.one_in(3) { random.byte() } else { random.pick(&[0x00, 0xFF]) };
+        let n = if random.one_in(20) { random.below(90) } else { random.below(8) };
+        let words: Vec<u16> = (0..n).map(|_| random.u16()).collect();
+        let room = generate::room(random, 3 * n);
+        let salt = salt(section);
+        section.check(WriteWords { start, words, room, salt });
+    }
+}
+
+fn sfc6_section(section: &mut Section) {
+    for code in 0..=u16::MAX {
+        let concentration = section.random.pick(&[0, 1, 1000, 1001, 65_536, u32::MAX]);
+        section.check(WriteSfc6 { code, concentration, room: 5, salt: u32::from(code) });
+    }
+    let codes = [0xE102, 0xE000, 0x3FEF, 0x3F6E, 0xE17D, 0x3650, 0x365B];
+    for code in codes {
+        for concentration in (0..1100).chain([65_535, 65_536, 65_537, 66_536, 0xFFFF_FFFF]) {
+            for room in 0..8 {
+                section.check(WriteSfc6 { code, concentration, room, salt: concentration });
+            }
+        }
+    }
+    for _ in 0..section.times(100_000) {
+        let code = section.random.pick(&codes);
+        let concentration = section.random.u32() >> section.random.below(32);
+        let (room, salt) = (section.random.below(9), salt(section));
+        section.check(WriteSfc6 { code, concentration, room, salt });
+    }
+}
+
+fn liquid_section(section: &mut Section) {
+    for code in 0..=255 {
+        for room in 0..6 {
+            for value in [0, 0x0E10, 0x7E11, 0xFFFF] {
+                section.check(WriteLiquid { code, value, room, salt: u32::from(value) });
+            }
+        }
+    }
+    for value in 0..=u16::MAX {
+        for code in [0xE2, 0xE4, 0xE3] {
+            section.check(WriteLiquid { code, value, room: 4, salt: u32::from(value) });
+        }
+    }
+}
+
+/// All register values with every field in range, and those around and far past the range.
+fn registers_section(section: &mut Section) {
+    for value in 0..=u16::MAX {
+        for field in (0..9).chain([16, 255, 256, 65_536, 65_540, 0x8000_0000, u32::MAX]) {
+            section.check(EditUser { value, field, salt: 0 });
+            section.check(EditAdvanced { value, field, salt: 0 });
+        }
+    }
+}
+
+// ---- Scaled readings
+
+fn scaled_both(section: &mut Section, raw: i16, offset: i16, scale: i32) {
+    section.check(Scaled { raw, offset, scale, salt: 0 });
+    section.check(ScaledFloat { raw, offset, scale, salt: 0 });
+}
+
+fn scaled_section(section: &mut Section) {
+    const ENDS: [i16; 9] = [-32_768, -32_767, -28_672, -1, 0, 1, 22_528, 32_766, 32_767];
+    const SCALES: [i32; 12] = [i32::MIN, -1, 0, 1, 2, 3, 1000, 2000, 32_766, 32_767, 32_768, i32::MAX];
+    for raw in ENDS {
+        for offset in ENDS {
+            for scale in SCALES.iter().copied().chain([65_535, 65_536, 65_537, -32_768, 98_303]) {
+                scaled_both(section, raw, offset, scale);
+            }
+        }
+    }
+    // Every raw value, and every scale, with an extreme or any other on the other side.
+    for raw in i16::MIN..=i16::MAX {
+        let (offset, scale) = (section.random.pick(&ENDS), section.random.pick(&SCALES));
+        scaled_both(section, raw, offset, scale);
+        let scale = section.random.between(1, 32_767) as i32;
+        scaled_both(section, raw, offset, scale);
+    }
+    for scale in 1..=32_767 {
+        let (raw, offset) = (section.random.pick(&ENDS), section.random.pick(&ENDS));
+        scaled_both(section, raw, offset, scale);
+    }
+    // Halves: the difference times 2000 is an odd multiple of the scale.
+    for scale in (16..=32_752).step_by(16) {
+        for difference in (scale / 16..32_767).step_by(scale as usize / 8) {
+            scaled_both(section, difference as i16, 0, scale);
+            scaled_both(section, 0, difference as i16, scale);
+        }
+    }
+    for _ in 0..section.times(400_000) {
+        let (raw, offset) = (section.random.u16() as i16, section.random.u16() as i16);
+        let scale = (section.random.u32() >> section.random.between(15, 31)) as i32;
+        scaled_both(section, raw, offset, scale);
+    }
+}
+
+/// The reference makes its floats from whole numbers; here they are held against this machine's own division.
+fn float_reference_section(section: &mut Section) {
+    for _ in 0..section.times(300_000) {
+        let (raw, offset) = (section.random.u16() as i16, section.random.u16() as i16);
+        let scale = section.random.between(1, 32_767) as i32;
+        let divided = (i32::from(raw) - i32::from(offset)) as f32 / scale as f32;
+        let made = scaled_float(raw, offset, scale).value;
+        section.expect("the reference divides as the machine does", divided.to_bits(), made.to_bits());
+    }
+}
+
+// ---- The run
+
+fn setting(name: &str) -> Option<String> {
+    std::env::var(name).ok().filter(|text| !text.is_empty())
+}
+
+fn number_or_exit(text: &str) -> u64 {
+    text.parse().unwrap_or_else(|_| {
+        eprintln!("differential: {text} is not a number; usage: differential [SEED]");
+        std::process::exit(2);
+    })
+}
+
+fn seed() -> u64 {
+    let given = std::env::args().nth(1).or_else(|| setting("MFC_SEED"));
+    given.map_or_else(
+        || {
+            let now = std::time::SystemTime::now().duration_since(std::time::UNIX_EPOCH);
+            now.map_or(1, |since| since.as_nanos() as u64 % 1_000_000_007)
+        },
+        |text| number_or_exit(&text),
+    )
+}
+
+fn main() {
+    let percent = setting("MFC_PERCENT").map_or(100, |text| number_or_exit(&text) as usize);
+    let only = setting("MFC_ONLY").unwrap_or_default();
+    let mut report = Report { seed: seed(), percent, only, sections: 0, cases: 0, failures: 0 };
+    println!("seed {}", report.seed);
+    vectors::run(&mut report);
+    report.section("checksum", checksum_section);
+    report.section("crc", crc_section);
+    report.section("write a request", write_request_section);
+    report.section("write a request: every room", rooms_section);
+    report.section("write a request at a place", write_request_at_section);
+    report.section("polling rounds", polling_section);
+    report.section("read a request", read_request_section);
+    report.section("read a request: every command and length", every_command_section);
+    report.section("write a reply", write_reply_section);
+    report.section("write a reply: every number", every_reply_section);
+    report.section("read a reply", read_reply_section);
+    report.section("read a reply: every state and length", every_state_section);
+    report.section("a fresh receiver", fresh_section);
+    report.section("receiver: every short stream", short_streams_section);
+    report.section("receiver: series of calls", series_section);
+    report.section("receiver: long pieces", long_pieces_section);
+    report.section("receiver: bodies of 256 to 263 bytes", largest_section);
+    report.section("receiver: records", records_section);
+    report.section("receiver: ranges of a record", ranges_section);
+    report.section("requests written and read back", requests_round_trip);
+    report.section("replies written and read back", replies_round_trip);
+    report.section("words: all of them", every_word_section);
+    report.section("read words", read_words_section);
+    report.section("write words", write_words_section);
+    report.section("write an SFC6 command", sfc6_section);
+    report.section("write a liquid command", liquid_section);
+    report.section("registers: all of them", registers_section);
+    report.section("scaled readings", scaled_section);
+    report.section("scaled readings: the reference itself", float_reference_section);
+    let (sections, cases) = (report.sections, thousands(report.cases));
+    println!("differential: {sections} sections, {cases} cases, {} failures", report.failures);
+    if report.failures > 0 {
+        std::process::exit(1);
+    }
+}

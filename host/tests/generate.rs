@@ -1,0 +1,442 @@
+//! Random inputs, bent towards the places where implementations differ.
+
+use crate::cases::{Ask, Series, Step};
+use crate::harness::{Hex, Random};
+use crate::reference::*;
+
+/// The bytes of the stuffing rule, and what follows a 7D in their place.
+pub const STUFFING_BYTES: [u8; 8] = [0x7E, 0x7D, 0x11, 0x13, 0x5E, 0x5D, 0x31, 0x33];
+
+/// A byte for the wire: often one of the stuffing rule, else an edge, else any.
+pub fn wire_byte(random: &mut Random) -> u8 {
+    match random.below(8) {
+        0..=4 => random.pick(&STUFFING_BYTES),
+        5 => random.pick(&[0x00, 0xFF, 0x80, 0x7F, 0x41, 0x20]),
+        _ => random.byte(),
+    }
+}
+
+pub fn wire_bytes(random: &mut Random, n: usize) -> Vec<u8> {
+    (0..n).map(|_| wire_byte(random)).collect()
+}
+
+/// Bytes of one sort: all any, all special, or all one byte.
+pub fn some_bytes(random: &mut Random, n: usize) -> Vec<u8> {
+    match random.below(4) {
+        0 => (0..n).map(|_| random.byte()).collect(),
+        1 => wire_bytes(random, n),
+        2 => vec![wire_byte(random); n],
+        _ => vec![0; n],
+    }
+}
+
+const EDGES: [u32; 30] = [
+    0,
+    1,
+    2,
+    126,
+    127,
+    128,
+    253,
+    254,
+    255,
+    256,
+    257,
+    1000,
+    1001,
+    65_534,
+    65_535,
+    65_536,
+    65_537,
+    0x0001_0000 + 9600,
+    0x7F7F_FFFF,
+    0x7F80_0000,
+    0x7F80_0001,
+    0x7FC0_0000,
+    0x7FFF_FFFF,
+    0x8000_0000,
+    0xFF7F_FFFF,
+    0xFF80_0000,
+    0xFF80_0001,
+    0xFFFF_FFFE,
+    0xFFFF_FFFF,
+    0x3F80_0000,
+];
+
+/// A value of a request or reply: an edge, a baud rate or its neighbour, special bytes, or any.
+pub fn value(random: &mut Random) -> u32 {
+    match random.below(8) {
+        0..=2 => random.pick(&EDGES),
+        3 => random.pick(&BAUD_RATES),
+        4 => random.pick(&BAUD_RATES).wrapping_add(random.pick(&[1, u32::MAX, 0x1_0000, 0x100_0000])),
+        5 => random.pick(&[0x7F80_0000, 0xFF80_0000]) | random.u32() >> random.between(9, 31),
+        6 => u32::from_be_bytes([wire_byte(random), wire_byte(random), wire_byte(random), wire_byte(random)]),
+        _ => random.u32() >> random.below(32),
+    }
+}
+
+/// A value that the field takes, more often than not.
+pub fn value_for(random: &mut Random, field: Field) -> u32 {
+    if random.one_in(4) {
+        return value(random);
+    }
+    match field {
+        Field::Address => random.below(255) as u32,
+        Field::Baud => random.pick(&BAUD_RATES),
+        Field::Validity => random.below(2) as u32,
+        Field::ErrorCode => random.between(1, 127) as u32,
+        Field::U16 => random.pick(&[0x7E7D, 0x1113, 0xFFFF, 0]) ^ random.below(2) as u32,
+        Field::Float if random.one_in(2) => random.pick(&CODINGS),
+        _ => value(random),
+    }
+}
+
+pub fn address(random: &mut Random) -> u8 {
+    match random.below(4) {
+        0 => random.pick(&[0, 1, 253, 254, 255]),
+        1 => 255,
+        2 => wire_byte(random),
+        _ => random.byte(),
+    }
+}
+
+/// A request's number: mostly one of the table, else past it.
+pub fn request(random: &mut Random) -> u8 {
+    match random.below(12) {
+        0 => random.between(21, 255) as u8,
+        _ => random.below(21) as u8,
+    }
+}
+
+pub fn request_field(request: u8) -> Field {
+    ROWS.get(usize::from(request)).map_or(Field::U32, |row| row.request)
+}
+
+/// A room around what is needed, or none, or plenty.
+pub fn room(random: &mut Random, needed: usize) -> usize {
+    match random.below(8) {
+        0 => needed.saturating_sub(1),
+        1 => random.below(needed + 1),
+        2 => 0,
+        3 => needed + 1,
+        4 | 5 => needed,
+        _ => needed + random.below(40),
+    }
+}
+
+// ---- Bodies
+
+/// One change: a byte replaced, left out, added or doubled, two neighbours swapped, or the end cut off.
+pub fn changed(random: &mut Random, bytes: &[u8]) -> Vec<u8> {
+    let mut all = bytes.to_vec();
+    if all.is_empty() {
+        return vec![wire_byte(random)];
+    }
+    let at = random.below(all.len());
+    match random.below(8) {
+        0 => all[at] = random.byte(),
+        1 => all[at] = wire_byte(random),
+        2 => all[at] ^= 1 << random.below(8),
+        3 => drop(all.remove(at)),
+        4 => all.insert(at, wire_byte(random)),
+        5 => all.insert(at, bytes[at]),
+        6 => all.swap(at, (at + 1) % bytes.len()),
+        _ => all.truncate(at),
+    }
+    all
+}
+
+/// A body's data length: that of the table, a neighbour of it, an extreme, or any.
+fn data_length(random: &mut Random, tabled: usize) -> usize {
+    match random.below(8) {
+        0..=3 => tabled,
+        4 => tabled + 1,
+        5 => tabled.saturating_sub(1),
+        6 => random.pick(&[0, 1, 2, 3, 4, 5, 6, 254, 255]),
+        _ => random.below(256),
+    }
+}
+
+/// The body of a typed request, or one near to it: another subcommand, another length.
+pub fn near_request_body(random: &mut Random) -> Vec<u8> {
+    let row = random.pick(&ROWS);
+    let command = if random.one_in(12) { random.byte() } else { row.command };
+    let mut data: Vec<u8> = row.sub.into_iter().collect();
+    if random.one_in(12) && !data.is_empty() {
+        data[0] = random.pick(&[0x00, 0x01, 0x02, 0x03, 0x10, 0x14, 0x11, 0x13]);
+    }
+    let carried = value_for(random, row.request).to_be_bytes();
+    let width = match row.request {
+        Field::Nothing => 0,
+        Field::Address => 1,
+        _ => 4,
+    };
+    data.extend_from_slice(&carried[4 - width..]);
+    let length = data_length(random, data.len());
+    while data.len() < length {
+        data.push(wire_byte(random));
+    }
+    data.truncate(length);
+    let mut whole = vec![address(random), command, length as u8];
+    whole.extend(data);
+    body(&whole)
+}
+
+/// A body that an asked device might send, or one near to it.
+pub fn near_reply_body(random: &mut Random, asked: u8, request: u8) -> Vec<u8> {
+    let any = random.pick(&ROWS);
+    let row = if random.one_in(16) { any } else { *ROWS.get(usize::from(request)).unwrap_or(&any) };
+    let from = if random.one_in(10) { address(random) } else { asked };
+    let code = match random.below(6) {
+        0 => random.between(1, 127) as u8,
+        1 => random.pick(&[1, 0x11, 0x13, 0x7D, 0x7E, 0x7F, 32, 42]),
+        _ => 0,
+    };
+    let state = code | if random.one_in(3) { 0x80 } else { 0 };
+    let field = REPLIES[usize::from(row.reply)];
+    let mut data = match field {
+        Field::Nothing => Vec::new(),
+        Field::Text => text(random),
+        Field::Address | Field::Validity => value_for(random, field).to_be_bytes()[3..].to_vec(),
+        Field::U16 => value_for(random, field).to_be_bytes()[2..].to_vec(),
+        _ => value_for(random, field).to_be_bytes().to_vec(),
+    };
+    if code != 0 && !random.one_in(4) {
+        data.clear();
+    }
+    if field != Field::Text || random.one_in(4) {
+        let length = data_length(random, data.len());
+        while data.len() < length {
+            data.push(wire_byte(random));
+        }
+        data.truncate(length);
+    }
+    data.truncate(255);
+    let mut whole = vec![from, row.command, state, data.len() as u8];
+    whole.extend(data);
+    body(&whole)
+}
+
+/// Text for a string reply: of any length, mostly without a 00, some with one or more.
+pub fn text(random: &mut Random) -> Vec<u8> {
+    let length = match random.below(8) {
+        0 => 0,
+        1 => random.between(252, 258),
+        2 => random.pick(&[0x11, 0x13, 0x7D, 0x7E, 0x10, 0x12, 0x7C]),
+        3 => random.below(300),
+        _ => random.below(12),
+    };
+    let mut text = some_bytes(random, length);
+    if !random.one_in(4) {
+        text.iter_mut().filter(|byte| **byte == 0).for_each(|byte| *byte = b'A');
+    } else if !text.is_empty() {
+        let at = random.below(text.len());
+        text[at] = 0;
+    }
+    text
+}
+
+/// A body of either kind with a good length and a good checksum, of any data.
+pub fn good_body(random: &mut Random, kind: Kind, length: usize) -> Vec<u8> {
+    let mut whole = vec![wire_byte(random), wire_byte(random)];
+    if kind == Kind::Reply {
+        whole.push(wire_byte(random));
+    }
+    whole.push(length as u8);
+    whole.extend(some_bytes(random, length));
+    body(&whole)
+}
+
+/// A body of an exact size, its length byte and checksum right as far as they can be.
+pub fn sized_body(random: &mut Random, kind: Kind, size: usize) -> Vec<u8> {
+    let header = if kind == Kind::Request { 3 } else { 4 };
+    let mut whole = some_bytes(random, size);
+    if size > header {
+        whole[header - 1] = (size - header - 1) as u8;
+    }
+    if let Some(last) = whole.pop() {
+        let sum = checksum(&whole);
+        whole.push(if random.one_in(8) { last } else { sum });
+    }
+    whole
+}
+
+pub fn any_kind(random: &mut Random) -> Kind {
+    random.pick(&[Kind::Request, Kind::Reply])
+}
+
+/// An unstuffed body for a reader: near to a good one, changed once, of an extreme size, or anything.
+pub fn offered_body(random: &mut Random, kind: Kind, near: Vec<u8>) -> Vec<u8> {
+    match random.below(10) {
+        0..=5 => near,
+        6 | 7 => changed(random, &near),
+        8 => {
+            let size = random.pick(&[3, 4, 5, 6, 258, 259, 260, 261, 262, 300]);
+            sized_body(random, kind, size)
+        }
+        _ => {
+            let size = random.below(12);
+            wire_bytes(random, size)
+        }
+    }
+}
+
+// ---- Streams
+
+/// A part of a stream, as raw bytes.
+fn stream_part(random: &mut Random, kind: Kind) -> Vec<u8> {
+    let length = match random.below(8) {
+        0 => random.below(256),
+        1 => random.pick(&[0x11, 0x13, 0x7D, 0x7E, 255]),
+        _ => random.below(8),
+    };
+    let of = if random.one_in(8) { any_kind(random) } else { kind };
+    match random.below(16) {
+        0..=3 => wire(&good_body(random, of, length)),
+        4..=6 => {
+            let frame = wire(&good_body(random, of, length));
+            changed(random, &frame)
+        }
+        7 => {
+            let body = good_body(random, of, length);
+            wire(&changed(random, &body))
+        }
+        8 => wire(&near_request_body(random)),
+        9 => {
+            let (asked, request) = (address(random), random.below(21) as u8);
+            wire(&near_reply_body(random, asked, request))
+        }
+        10 | 11 => {
+            let n = random.below(12);
+            wire_bytes(random, n)
+        }
+        12 => vec![DELIMITER; random.between(1, 4)],
+        13 => {
+            let (n, mut part) = (random.below(10), vec![DELIMITER]);
+            part.extend(some_bytes(random, n));
+            part.push(DELIMITER);
+            part
+        }
+        _ => long_part(random, of),
+    }
+}
+
+/// A stretch around the largest sizes, often whole and good, else with one fault at any place, also past the store.
+fn long_part(random: &mut Random, kind: Kind) -> Vec<u8> {
+    let size = match random.below(4) {
+        0 => random.between(250, 270),
+        1 => random.between(262, 600),
+        _ => random.between(258, 261),
+    };
+    let body = sized_body(random, kind, size);
+    let mut part = wire(&body);
+    match random.below(4) {
+        0 => part.insert(random.between(1, part.len() - 1), random.pick(&[0x11, 0x13])),
+        1 => part.insert(random.between(1, part.len() - 1), ESCAPE),
+        2 => {
+            let near_end = part.len() - 1 - random.below(12);
+            part.insert(near_end, random.pick(&STUFFING_BYTES));
+        }
+        _ => {}
+    }
+    part
+}
+
+/// A room for the frame: mostly as required, at times too short or long.
+fn frame_room(random: &mut Random) -> usize {
+    match random.below(16) {
+        0 => 259,
+        1 => 0,
+        2 => random.below(260),
+        3 => random.between(261, 300),
+        _ => 260,
+    }
+}
+
+/// Cuts a raw stream into pieces, with marks and calls of short room between them.
+pub fn steps(random: &mut Random, stream: &[u8], marks: usize) -> Vec<Step> {
+    // Long streams mostly go in larger pieces, so that the time is spent on many streams and not on many calls.
+    let widths: &[usize] = if stream.len() < 40 { &[1, 2, 3, 8, 40] } else { &[1, 20, 32, 40, 64, 128, 300, 700] };
+    let widest = random.pick(widths);
+    let mut steps = Vec::new();
+    let mut rest = stream;
+    while !rest.is_empty() {
+        let (piece, after) = rest.split_at(random.between(0, widest).min(rest.len()));
+        let room = frame_room(random);
+        steps.push(Step::Feed { piece: Hex(piece.to_vec()), room, again: !random.one_in(12) });
+        // A piece refused for its room is handed in again, now and then it is not.
+        if room >= STORE || random.one_in(4) {
+            rest = after;
+        }
+        if random.one_in(marks) {
+            steps.push(Step::Mark);
+        }
+    }
+    steps
+}
+
+/// A raw stream of some parts.
+pub fn stream(random: &mut Random, kind: Kind, parts: usize) -> Vec<u8> {
+    (0..parts).flat_map(|_| stream_part(random, kind)).collect()
+}
+
+/// A series over a stream of a few parts.
+pub fn series(random: &mut Random, salt: u32) -> Series {
+    let kind_number = random.below(2) as u8;
+    let kind = crate::cases::kind_of(kind_number);
+    let parts = random.between(1, 5);
+    let stream = stream(random, kind, parts);
+    let marks = random.pick(&[4, 12, 100_000]);
+    Series { kind: kind_number, steps: steps(random, &stream, marks), salt }
+}
+
+/// A record in range that a stream may leave, or one with a field out of range.
+pub fn record(random: &mut Random) -> Vec<u8> {
+    let size = match random.below(10) {
+        0 => random.below(RECORD),
+        1 => random.between(RECORD + 1, RECORD + 20),
+        _ => RECORD,
+    };
+    let mut record = some_bytes(random, size.max(4));
+    let mode = random.below(5) as u8;
+    let length = match (mode, random.below(4)) {
+        (0, _) => 0,
+        (_, 0) => random.below(262),
+        (_, 1) => random.between(255, 261),
+        _ => random.below(9),
+    };
+    record[0] = random.below(2) as u8;
+    record[1] = mode;
+    record[2] = (length / 256) as u8;
+    record[3] = (length % 256) as u8;
+    make_good(random, &mut record, length);
+    if random.one_in(6) {
+        let at = random.below(4);
+        record[at] = random.byte();
+    }
+    record.truncate(size);
+    record
+}
+
+/// Makes the stored bytes a good body of the record's kind, so that the next 7E may give a frame.
+fn make_good(random: &mut Random, record: &mut [u8], length: usize) {
+    if length < 5 || length > STORE || record.len() < RECORD || random.one_in(3) {
+        return;
+    }
+    let header = 3 + usize::from(record[0]);
+    record[4 + header - 1] = (length - header - 1) as u8;
+    record[4 + length - 1] = checksum(&record[4..4 + length - 1]);
+}
+
+pub fn round(random: &mut Random, salt: u32) -> crate::cases::Round {
+    let size = random.below(120);
+    let n = random.between(1, 8);
+    let asks = (0..n).map(|_| ask(random)).collect();
+    crate::cases::Round { size, asks, salt }
+}
+
+fn ask(random: &mut Random) -> Ask {
+    let request = request(random);
+    let skip = if random.one_in(8) { random.below(130) } else { 0 };
+    Ask { address: address(random), request, value: value_for(random, request_field(request)), skip }
+}

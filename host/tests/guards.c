@@ -1,0 +1,519 @@
+/*
+ * Every exported function, called from C with each lent slice hard against memory that may not be touched.
+ *
+ * The same calls are made three times: with each slice flush against the page after it, flush against the page before
+ * it, and as a heap block of its exact size (for AddressSanitizer and valgrind). Pages before and after may neither be
+ * read nor written; what is left of a slice's own pages holds a pattern that must stand. All three runs must give the
+ * same answers and leave the same bytes.
+ *
+ * usage: guards NAME ROUNDS [SEED]; the name stands before the summary.
+ */
+#define _GNU_SOURCE
+#include <signal.h>
+#include <stddef.h>
+#include <stdint.h>
+#include <stdio.h>
+#include <stdlib.h>
+#include <string.h>
+#include <sys/mman.h>
+#include <unistd.h>
+
+#if defined(__has_include)
+#if __has_include("../include/mfc.h")
+#include "../include/mfc.h"
+#define HAVE_HEADER
+#endif
+#endif
+
+#ifndef HAVE_HEADER
+typedef struct { uint8_t refusal; size_t length; } mfc_written;
+typedef struct { uint8_t refusal; uint8_t address; uint8_t request; uint32_t value; } mfc_request;
+typedef struct { uint8_t refusal; uint8_t code; uint8_t bit7; uint8_t reply;
+                 uint32_t value; size_t text_start; size_t text_length; } mfc_reply;
+typedef struct { uint8_t refusal; size_t frame_length; size_t taken; } mfc_fed;
+typedef struct { uint8_t refusal; size_t count; } mfc_words;
+typedef struct { uint8_t refusal; uint16_t value; } mfc_register;
+typedef struct { uint8_t refusal; int32_t value; } mfc_thousandths;
+typedef struct { uint8_t refusal; float value; } mfc_quantity;
+#endif
+
+/* Declared once more: a header that says otherwise does not compile. */
+uint8_t mfc_checksum(const uint8_t *bytes, size_t n);
+uint8_t mfc_crc(uint8_t start, const uint8_t *bytes, size_t n);
+mfc_written mfc_write_request(uint8_t address, uint8_t request, uint32_t value, uint8_t *out, size_t room);
+mfc_written mfc_write_request_at(uint8_t *buffer, size_t size, size_t start, uint8_t address, uint8_t request,
+                                 uint32_t value);
+mfc_request mfc_read_request(const uint8_t *body, size_t n);
+mfc_written mfc_write_reply(uint8_t address, uint8_t request, uint32_t value, uint8_t reply, uint32_t reply_value,
+                            const uint8_t *text, size_t n, uint8_t bit7, uint8_t *out, size_t room);
+mfc_reply mfc_read_reply(uint8_t address, uint8_t request, uint32_t value, const uint8_t *body, size_t n);
+uint8_t mfc_receiver_fresh(uint8_t kind, uint8_t *record, size_t size);
+mfc_fed mfc_feed(uint8_t *record, size_t size, const uint8_t *piece, size_t n, uint8_t *frame, size_t room);
+uint8_t mfc_silence(uint8_t *record, size_t size);
+mfc_words mfc_read_words(uint8_t start, const uint8_t *bytes, size_t n, uint16_t *words, size_t room);
+mfc_written mfc_write_words(uint8_t start, const uint16_t *words, size_t n, uint8_t *out, size_t room);
+mfc_written mfc_write_sfc6(uint16_t code, uint32_t concentration, uint8_t *out, size_t room);
+mfc_written mfc_write_liquid(uint8_t code, uint16_t value, uint8_t *out, size_t room);
+mfc_register mfc_edit_user(uint16_t value, uint32_t field);
+mfc_register mfc_edit_advanced(uint16_t value, uint32_t field);
+mfc_thousandths mfc_scaled(int16_t raw, int16_t offset, int32_t scale);
+mfc_quantity mfc_scaled_float(int16_t raw, int16_t offset, int32_t scale);
+
+_Static_assert(offsetof(mfc_reply, value) == 4, "four bytes stand before the value");
+_Static_assert(offsetof(mfc_register, value) == 2, "the register's value follows the refusal");
+_Static_assert(sizeof(mfc_quantity) == 8, "a refusal and a float");
+
+enum { RECORD = 264, FRAME = 260, SLOTS = 3, LARGEST = 4096 };
+
+/* ---- Random numbers: the same in every placement */
+
+static uint64_t state;
+
+static uint32_t any(void)
+{
+    state ^= state << 13;
+    state ^= state >> 7;
+    state ^= state << 17;
+    return (uint32_t)((state * UINT64_C(0x2545F4914F6CDD1D)) >> 32);
+}
+
+static size_t below(size_t n)
+{
+    return any() % n;
+}
+
+static uint8_t wire_byte(void)
+{
+    static const uint8_t special[] = {0x7E, 0x7D, 0x11, 0x13, 0x5E, 0x5D, 0x31, 0x33};
+    return below(2) ? special[below(sizeof special)] : (uint8_t)any();
+}
+
+static void wire_bytes(uint8_t *bytes, size_t n)
+{
+    for (size_t i = 0; i < n; i++) {
+        bytes[i] = wire_byte();
+    }
+}
+
+/* ---- Lending */
+
+enum placement { AT_END, AT_START, HEAP, PLACEMENTS };
+static const char *const placement_names[] = {"against the end", "against the start", "on the heap"};
+
+static enum placement placement;
+static uint8_t *slots[SLOTS]; /* the pages of each slot; the page before and the page after may not be touched */
+static uint8_t *pattern;      /* what those pages hold outside a lent slice */
+static size_t pages_length;
+static const char *volatile function = "none";
+static volatile unsigned long cases;
+static uint64_t digest;
+
+struct lent {
+    int slot;
+    uint8_t *bytes;
+    size_t length;
+};
+
+static void fail(const char *what)
+{
+    printf("FAILED %s, %s, case %lu: %s\n", function, placement_names[placement], cases, what);
+    exit(1);
+}
+
+static void on_fault(int signal_number, siginfo_t *info, void *context)
+{
+    char text[256];
+    (void)signal_number;
+    (void)context;
+    int n = snprintf(text, sizeof text, "FAILED %s, slices %s, case %lu: touched %p, outside what was lent\n", function,
+                     placement_names[placement], cases, info->si_addr);
+    ssize_t ignored = write(STDOUT_FILENO, text, (size_t)n);
+    (void)ignored;
+    _exit(1);
+}
+
+static void make_slots(void)
+{
+    size_t page = (size_t)sysconf(_SC_PAGESIZE);
+    pages_length = (LARGEST + page - 1) / page * page;
+    pattern = malloc(pages_length);
+    for (size_t i = 0; i < pages_length; i++) {
+        pattern[i] = (uint8_t)(i * 29 + 0xA5);
+    }
+    for (int i = 0; i < SLOTS; i++) {
+        uint8_t *whole = mmap(NULL, pages_length + 2 * page, PROT_NONE, MAP_PRIVATE | MAP_ANONYMOUS, -1, 0);
+        if (whole == MAP_FAILED || mprotect(whole + page, pages_length, PROT_READ | PROT_WRITE) != 0) {
+            perror("guards: no pages");
+            exit(2);
+        }
+        slots[i] = whole + page;
+    }
+}
+
+/* A slice of exactly n bytes: what is given, or a pattern where nothing is. */
+static struct lent lend(int slot, const void *contents, size_t n)
+{
+    struct lent lent = {slot, NULL, n};
+    if (placement == HEAP) {
+        lent.bytes = malloc(n);
+    } else {
+        memcpy(slots[slot], pattern, pages_length);
+        /* An empty slice is the untouchable page itself, or NULL. */
+        lent.bytes = placement == AT_END ? slots[slot] + pages_length - n : n > 0 ? slots[slot] : NULL;
+    }
+    if (n > 0) {
+        memcpy(lent.bytes, contents != NULL ? contents : pattern, n);
+    }
+    return lent;
+}
+
+static void fold(uint64_t number)
+{
+    digest = (digest ^ number) * UINT64_C(0x100000001B3) + 1;
+}
+
+/* Takes a slice back: its bytes go into the digest, and the rest of its pages must be as it was. */
+static void take_back(struct lent lent)
+{
+    for (size_t i = 0; i < lent.length; i++) {
+        fold(lent.bytes[i]);
+    }
+    if (placement == HEAP) {
+        free(lent.bytes);
+        return;
+    }
+    size_t before = placement == AT_END ? pages_length - lent.length : 0;
+    size_t end = before + lent.length;
+    const uint8_t *slot = slots[lent.slot];
+    if (memcmp(slot, pattern, before) != 0 || memcmp(slot + end, pattern + end, pages_length - end) != 0) {
+        fail("a byte beside a lent slice was changed");
+    }
+}
+
+static void begin(const char *name)
+{
+    function = name;
+    cases++;
+}
+
+/* ---- The functions, each with slices of the sizes given */
+
+static mfc_written write_request(uint8_t address, uint8_t request, uint32_t value, uint8_t *copy, size_t room)
+{
+    begin("mfc_write_request");
+    struct lent out = lend(0, NULL, room);
+    mfc_written written = mfc_write_request(address, request, value, out.bytes, room);
+    if (copy != NULL && written.refusal == 0) {
+        memcpy(copy, out.bytes, written.length);
+    }
+    fold(written.refusal);
+    fold(written.length);
+    take_back(out);
+    return written;
+}
+
+static void write_request_at(size_t size, size_t start)
+{
+    begin("mfc_write_request_at");
+    struct lent buffer = lend(0, NULL, size);
+    uint8_t request = (uint8_t)below(22);
+    mfc_written written = mfc_write_request_at(buffer.bytes, size, start, wire_byte(), request, any() & 1);
+    fold(written.refusal);
+    fold(written.length);
+    take_back(buffer);
+}
+
+static mfc_written write_reply(uint8_t address, uint8_t request, uint8_t reply, size_t text_length, uint8_t *copy,
+                               size_t room)
+{
+    uint8_t contents[300];
+    begin("mfc_write_reply");
+    for (size_t i = 0; i < text_length; i++) {
+        contents[i] = wire_byte() | 1;
+    }
+    struct lent text = lend(0, contents, text_length);
+    struct lent out = lend(1, NULL, room);
+    mfc_written written = mfc_write_reply(address, request, 1, reply, 1, text.bytes, text_length, any() & 1, out.bytes,
+                                          room);
+    if (copy != NULL && written.refusal == 0) {
+        memcpy(copy, out.bytes, written.length);
+    }
+    fold(written.refusal);
+    fold(written.length);
+    take_back(text);
+    take_back(out);
+    return written;
+}
+
+static void read_bodies(const uint8_t *contents, size_t n)
+{
+    struct lent body = lend(0, contents, n);
+    begin("mfc_checksum");
+    fold(mfc_checksum(body.bytes, n));
+    begin("mfc_crc");
+    fold(mfc_crc((uint8_t)any(), body.bytes, n));
+    begin("mfc_read_request");
+    mfc_request request = mfc_read_request(body.bytes, n);
+    fold(request.refusal);
+    fold(request.address);
+    fold(request.request);
+    fold(request.value);
+    begin("mfc_read_reply");
+    uint8_t address = n > 0 ? contents[0] : 0;
+    mfc_reply reply = mfc_read_reply(address, (uint8_t)below(22), 1, body.bytes, n);
+    fold(reply.refusal);
+    fold(reply.code);
+    fold(reply.bit7);
+    fold(reply.reply);
+    fold(reply.value);
+    fold(reply.text_start);
+    fold(reply.text_length);
+    if (reply.text_start + reply.text_length > n) {
+        fail("a text that is not in the body");
+    }
+    take_back(body);
+}
+
+/* One call on the record given; the record comes back changed as the library changes it. */
+static mfc_fed feed(uint8_t *record, const uint8_t *contents, size_t n, uint8_t *copy, size_t room)
+{
+    begin("mfc_feed");
+    struct lent kept = lend(0, record, RECORD);
+    struct lent piece = lend(1, contents, n);
+    struct lent frame = lend(2, NULL, room);
+    mfc_fed fed = mfc_feed(kept.bytes, RECORD, piece.bytes, n, frame.bytes, room);
+    if (fed.taken > n || fed.frame_length > room) {
+        fail("more than was lent");
+    }
+    memcpy(record, kept.bytes, RECORD);
+    memcpy(copy, frame.bytes, fed.frame_length);
+    fold(fed.refusal);
+    fold(fed.frame_length);
+    fold(fed.taken);
+    take_back(kept);
+    take_back(piece);
+    take_back(frame);
+    return fed;
+}
+
+static void silence(uint8_t *record, size_t size)
+{
+    begin("mfc_silence");
+    struct lent kept = lend(0, record, size);
+    fold(mfc_silence(kept.bytes, size));
+    if (size > 0) {
+        memcpy(record, kept.bytes, size);
+    }
+    take_back(kept);
+}
+
+static void fresh(uint8_t kind, uint8_t *record, size_t size)
+{
+    begin("mfc_receiver_fresh");
+    struct lent kept = lend(0, record, size);
+    fold(mfc_receiver_fresh(kind, kept.bytes, size));
+    if (size > 0) {
+        memcpy(record, kept.bytes, size);
+    }
+    take_back(kept);
+}
+
+static void words(size_t n, size_t room, int spoilt)
+{
+    uint16_t values[64];
+    uint8_t bytes[3 * 64];
+    uint8_t start = below(2) ? 0xFF : 0x00;
+    for (size_t i = 0; i < n; i++) {
+        values[i] = (uint16_t)any();
+    }
+    begin("mfc_write_words");
+    struct lent list = lend(0, values, 2 * n);
+    struct lent out = lend(1, NULL, 3 * n);
+    mfc_written written = mfc_write_words(start, (const uint16_t *)(const void *)list.bytes, n, out.bytes, 3 * n);
+    fold(written.refusal);
+    fold(written.length);
+    if (n > 0) {
+        memcpy(bytes, out.bytes, 3 * n);
+    }
+    take_back(list);
+    take_back(out);
+    if (spoilt && n > 0) {
+        bytes[below(3 * n)] ^= 1;
+    }
+    begin("mfc_read_words");
+    struct lent read = lend(0, bytes, 3 * n);
+    struct lent store = lend(1, NULL, 2 * room);
+    mfc_words answer = mfc_read_words(start, read.bytes, 3 * n, (uint16_t *)(void *)store.bytes, room);
+    fold(answer.refusal);
+    fold(answer.count);
+    take_back(read);
+    take_back(store);
+}
+
+static void i2c_commands(void)
+{
+    static const uint16_t codes[] = {0xE102, 0xE000, 0xE17D, 0x3650, 0x365B, 0x3FEF, 0x3F6E, 0x3661};
+    static const uint8_t liquid[] = {0xE2, 0xE3, 0xE4, 0xE5, 0xF1, 0xF3, 0xF5, 0xFE, 0xFA};
+    for (size_t room = 0; room < 7; room++) {
+        begin("mfc_write_sfc6");
+        struct lent out = lend(0, NULL, room);
+        mfc_written written = mfc_write_sfc6(codes[below(8)], any() % 1002, out.bytes, room);
+        fold(written.refusal);
+        fold(written.length);
+        take_back(out);
+        begin("mfc_write_liquid");
+        out = lend(0, NULL, room);
+        written = mfc_write_liquid(liquid[below(9)], (uint16_t)any(), out.bytes, room);
+        fold(written.refusal);
+        fold(written.length);
+        take_back(out);
+    }
+}
+
+static void numbers(void)
+{
+    begin("mfc_edit_user");
+    mfc_register edited = mfc_edit_user((uint16_t)any(), any() % 8);
+    fold(edited.refusal);
+    fold(edited.value);
+    begin("mfc_edit_advanced");
+    edited = mfc_edit_advanced((uint16_t)any(), any() % 9);
+    fold(edited.refusal);
+    fold(edited.value);
+    int16_t raw = (int16_t)any(), offset = (int16_t)any();
+    int32_t scale = (int32_t)(any() % 32770);
+    begin("mfc_scaled");
+    mfc_thousandths thousandths = mfc_scaled(raw, offset, scale);
+    fold(thousandths.refusal);
+    fold((uint32_t)thousandths.value);
+    begin("mfc_scaled_float");
+    mfc_quantity quantity = mfc_scaled_float(raw, offset, scale);
+    uint32_t bits;
+    memcpy(&bits, &quantity.value, sizeof bits);
+    fold(quantity.refusal);
+    fold(bits);
+}
+
+/* ---- One round: all functions, the writers' frames going through the receiver into the readers */
+
+static void writers(uint8_t *frame, size_t *length)
+{
+    uint8_t request = (uint8_t)below(21);
+    mfc_written needed = write_request(wire_byte(), request, 1, NULL, 64);
+    write_request(wire_byte(), request, 1, NULL, needed.length > 0 ? needed.length - 1 : 0);
+    write_request_at(below(40), below(44));
+    write_request_at(30, 30 - below(20));
+    static const uint8_t replies[] = {1, 0, 2, 3, 0, 4, 0, 5, 6, 7, 8, 9, 10, 11, 0, 0, 12, 0, 13, 0, 14};
+    uint8_t address = (uint8_t)below(255);
+    size_t text_length = below(4) ? below(12) : below(300);
+    mfc_written reply = write_reply(address, request, replies[request], text_length, frame, 600);
+    if (reply.refusal == 0) {
+        write_reply(address, request, replies[request], text_length, NULL, reply.length);
+        write_reply(address, request, replies[request], text_length, NULL, reply.length - 1);
+    }
+    write_reply(address, request, (uint8_t)below(18), text_length, NULL, below(40));
+    *length = reply.length;
+    if (below(2)) {
+        *length = write_request(address, request, any(), frame, 64).length;
+    }
+}
+
+/* Feeds a stream in pieces, with short room and marks between them; each body goes to the readers. */
+static void receive(const uint8_t *stream, size_t length)
+{
+    uint8_t record[RECORD + 8], frame[FRAME];
+    memset(record, 0, sizeof record);
+    fresh((uint8_t)below(3), record, RECORD + below(8));
+    fresh(0, record, below(RECORD));
+    size_t at = 0;
+    while (at < length) {
+        size_t left = length - at;
+        size_t n = below(left < 90 ? left + 1 : 90);
+        if (below(8) == 0) {
+            feed(record, stream + at, n, frame, below(FRAME));
+        }
+        mfc_fed fed = feed(record, stream + at, n, frame, FRAME);
+        if (fed.refusal == 2) {
+            return;
+        }
+        if (fed.frame_length > 0) {
+            read_bodies(frame, fed.frame_length);
+        }
+        at += fed.taken;
+        if (below(16) == 0) {
+            silence(record, RECORD);
+        }
+    }
+    silence(record, RECORD - below(4));
+    silence(record, 0);
+}
+
+static void one_round(void)
+{
+    uint8_t stream[2048];
+    size_t length = 0;
+    for (int parts = 0; parts < 3; parts++) {
+        uint8_t frame[600];
+        size_t n = 0;
+        writers(frame, &n);
+        if (n > 0 && below(3) == 0) {
+            frame[below(n)] = wire_byte();
+        }
+        memcpy(stream + length, frame, n);
+        length += n;
+    }
+    if (below(4) == 0) {
+        /* A stretch around the store's size, with a 7E before and after. */
+        size_t n = 250 + below(40);
+        stream[length++] = 0x7E;
+        memset(stream + length, (int)below(16), n);
+        length += n;
+        stream[length++] = 0x7E;
+    }
+    receive(stream, length);
+    uint8_t noise[300];
+    size_t n = below(4) ? below(20) : below(sizeof noise);
+    wire_bytes(noise, n);
+    receive(noise, n);
+    read_bodies(noise, n);
+    words(below(8), below(9), below(2) == 0);
+    words(below(64), below(64), 0);
+    i2c_commands();
+    numbers();
+}
+
+int main(int argc, char **argv)
+{
+    if (argc < 3) {
+        fprintf(stderr, "usage: guards NAME ROUNDS [SEED]\n");
+        return 2;
+    }
+    unsigned long rounds = strtoul(argv[2], NULL, 10);
+    uint64_t seed = argc > 3 ? strtoull(argv[3], NULL, 10) : 1;
+    struct sigaction action;
+    memset(&action, 0, sizeof action);
+    action.sa_sigaction = on_fault;
+    action.sa_flags = SA_SIGINFO;
+    sigaction(SIGSEGV, &action, NULL);
+    sigaction(SIGBUS, &action, NULL);
+    make_slots();
+    uint64_t digests[PLACEMENTS];
+    unsigned long total = 0;
+    for (int each = 0; each < PLACEMENTS; each++) {
+        placement = (enum placement)each;
+        state = (seed + 1) * UINT64_C(0x9E3779B97F4A7C15) | 1;
+        digest = 0;
+        cases = 0;
+        for (unsigned long i = 0; i < rounds; i++) {
+            one_round();
+        }
+        digests[each] = digest;
+        total += cases;
+    }
+    int differ = digests[AT_END] != digests[AT_START] || digests[AT_END] != digests[HEAP];
+    if (differ) {
+        printf("FAILED: the answers change with the place of the slices\n");
+    }
+    printf("%s: %d sections, %lu cases, %d failures\n", argv[1], PLACEMENTS, total, differ);
+    return differ;
+}

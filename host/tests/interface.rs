@@ -1,0 +1,114 @@
+//! The C interface seen from Rust: the answers field for field, and one method for each exported function.
+//! The reference and the library both stand behind it, so that a test is the same call made on each.
+
+/// A writer's answer.
+#[repr(C)]
+#[derive(Clone, Copy, Debug, Default, PartialEq, Eq)]
+pub struct Written {
+    pub refusal: u8,
+    pub length: usize,
+}
+
+/// A request taken from a body.
+#[repr(C)]
+#[derive(Clone, Copy, Debug, Default, PartialEq, Eq)]
+pub struct Request {
+    pub refusal: u8,
+    pub address: u8,
+    pub request: u8,
+    pub value: u32,
+}
+
+/// A reply taken from a body; its text is a place and a length in that body.
+#[repr(C)]
+#[derive(Clone, Copy, Debug, Default, PartialEq, Eq)]
+pub struct Reply {
+    pub refusal: u8,
+    pub code: u8,
+    pub bit7: u8,
+    pub reply: u8,
+    pub value: u32,
+    pub text_start: usize,
+    pub text_length: usize,
+}
+
+/// What one feeding call gave.
+#[repr(C)]
+#[derive(Clone, Copy, Debug, Default, PartialEq, Eq)]
+pub struct Fed {
+    pub refusal: u8,
+    pub frame_length: usize,
+    pub taken: usize,
+}
+
+/// Words read; with refusal 17 the count is the first wrong word's index.
+#[repr(C)]
+#[derive(Clone, Copy, Debug, Default, PartialEq, Eq)]
+pub struct Words {
+    pub refusal: u8,
+    pub count: usize,
+}
+
+/// An edited register.
+#[repr(C)]
+#[derive(Clone, Copy, Debug, Default, PartialEq, Eq)]
+pub struct Register {
+    pub refusal: u8,
+    pub value: u16,
+}
+
+/// A reading in thousandths of the unit.
+#[repr(C)]
+#[derive(Clone, Copy, Debug, Default, PartialEq, Eq)]
+pub struct Thousandths {
+    pub refusal: u8,
+    pub value: i32,
+}
+
+/// A reading in single precision.
+#[repr(C)]
+#[derive(Clone, Copy, Debug, Default)]
+pub struct Quantity {
+    pub refusal: u8,
+    pub value: f32,
+}
+
+/// Floats are compared by bits: -0 is not 0, and a NaN is itself.
+impl PartialEq for Quantity {
+    fn eq(&self, other: &Quantity) -> bool {
+        self.refusal == other.refusal && self.value.to_bits() == other.value.to_bits()
+    }
+}
+
+/// The exported functions, on slices.
+pub trait Interface {
+    fn checksum(&self, bytes: &[u8]) -> u8;
+    fn crc(&self, start: u8, bytes: &[u8]) -> u8;
+    fn write_request(&self, address: u8, request: u8, value: u32, out: &mut [u8]) -> Written;
+    fn write_request_at(&self, buffer: &mut [u8], start: usize, address: u8, request: u8, value: u32) -> Written;
+    fn read_request(&self, body: &[u8]) -> Request;
+    #[allow(clippy::too_many_arguments)]
+    fn write_reply(
+        &self,
+        address: u8,
+        request: u8,
+        value: u32,
+        reply: u8,
+        reply_value: u32,
+        text: &[u8],
+        bit7: u8,
+        out: &mut [u8],
+    ) -> Written;
+    fn read_reply(&self, address: u8, request: u8, value: u32, body: &[u8]) -> Reply;
+    fn receiver_fresh(&self, kind: u8, record: &mut [u8]) -> u8;
+    fn feed(&self, record: &mut [u8], piece: &[u8], frame: &mut [u8]) -> Fed;
+    fn silence(&self, record: &mut [u8]) -> u8;
+    fn read_words(&self, start: u8, bytes: &[u8], words: &mut [u16]) -> Words;
+    fn write_words(&self, start: u8, words: &[u16], out: &mut [u8]) -> Written;
+    fn write_sfc6(&self, code: u16, concentration: u32, out: &mut [u8]) -> Written;
+    fn write_liquid(&self, code: u8, value: u16, out: &mut [u8]) -> Written;
+    fn edit_user(&self, value: u16, field: u32) -> Register;
+    fn edit_advanced(&self, value: u16, field: u32) -> Register;
+    fn scaled(&self, raw: i16, offset: i16, scale: i32) -> Thousandths;
+    fn scaled_float(&self, raw: i16, offset: i16, scale: i32) -> Quantity;
+}
