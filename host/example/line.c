@@ -86,7 +86,7 @@ const char *line_open(struct line *line, const char *device, int timeout_ms)
 {
     line->timeout_ms = timeout_ms;
     line->restless = 0;
-    line->stray = 0;
+    line->heard = line->stray = 0;
     line->start = line->end = 0;
     if (mfc_receiver_fresh(1, line->record, sizeof line->record) != 0)
         return "the receiver cannot be made: rebuild this program with the library's own header";
@@ -99,6 +99,7 @@ const char *line_open(struct line *line, const char *device, int timeout_ms)
         line_close(line);
         return open_error(ENOTTY);
     }
+    /* A line has one master: nobody else is to open it while this one does. */
     (void)ioctl(line->fd, TIOCEXCL);
     if (!line_speed(line, 115200)) {
         line_close(line);
@@ -110,6 +111,7 @@ const char *line_open(struct line *line, const char *device, int timeout_ms)
 
 void line_close(struct line *line)
 {
+    (void)ioctl(line->fd, TIOCNXCL);
     (void)close(line->fd);
     line->fd = -1;
 }
@@ -117,6 +119,12 @@ void line_close(struct line *line)
 /* ---- bytes ---- */
 
 enum heard { BYTES, QUIET, GONE };
+
+/* When silence that begins now has lasted for over the timeout: a millisecond more, since the clock is cut to whole ones. */
+static int64_t silent_at(const struct line *line)
+{
+    return now_ms() + line->timeout_ms + 1;
+}
 
 /* Waits until the line can be read (or written), `until` has come, or the line is gone. */
 static enum heard wait_for(int fd, short what, int64_t until)
@@ -152,6 +160,7 @@ static enum heard hear(struct line *line, int64_t until)
         if (n > 0) {
             line->start = 0;
             line->end = (size_t)n;
+            line->heard += line->end;
             return BYTES;
         }
         if (n == 0)
@@ -190,7 +199,7 @@ static int settle(struct line *line)
 
     line->stray += line->end - line->start;
     do {
-        enum heard heard = hear(line, now_ms() + (wait ? line->timeout_ms : 0));
+        enum heard heard = hear(line, wait ? silent_at(line) : now_ms());
 
         if (heard == GONE)
             return 0;
@@ -237,7 +246,7 @@ static enum heard next_item(struct line *line, int64_t limit, mfc_fed *fed)
             return BYTES;
         line->restless = now_ms() >= limit;
         if (!line->restless)
-            heard = hear(line, now_ms() + line->timeout_ms);
+            heard = hear(line, silent_at(line));
         if (heard == QUIET)
             fed->refusal = mfc_silence(line->record, sizeof line->record);
         if (heard != BYTES)
@@ -277,6 +286,7 @@ static int settles(mfc_reply reply)
 static struct answer listen_for(struct line *line, uint8_t address, uint8_t request, uint32_t value)
 {
     int64_t limit = now_ms() + (int64_t)line->timeout_ms * LONGEST;
+    unsigned long heard_before = line->heard;
     struct answer answer = ended(SILENT, 0);
 
     for (;;) {
@@ -301,7 +311,7 @@ static struct answer listen_for(struct line *line, uint8_t address, uint8_t requ
         if (refusal != 0 && answer.ending == SILENT)
             answer = ended(REFUSED, refusal);
         if (heard == QUIET)
-            return answer;
+            return answer.ending == SILENT && line->heard != heard_before ? ended(NOISE, 0) : answer;
     }
 }
 

@@ -12,7 +12,8 @@ struct line {
     int fd;
     int timeout_ms;              /* the line counts as silent after so long without a byte */
     int restless;                /* the last question ended with the line not known to be quiet */
-    unsigned long stray;         /* bytes thrown away because no question was open */
+    unsigned long heard;         /* bytes that arrived */
+    unsigned long stray;         /* those of them thrown away because no question was open */
     uint8_t record[264];         /* the receiver */
     uint8_t frame[260];          /* the last frame's body */
     uint8_t bytes[4096];         /* what arrived: from `start` to `end` is not yet taken */
@@ -24,6 +25,7 @@ enum ending {
     ANSWERED,                    /* `reply` is the answer */
     REFUSED,                     /* `reply.refusal` says why, and with 15 `reply.code` */
     SILENT,                      /* nothing arrived */
+    NOISE,                       /* bytes arrived, but no start of a frame among them */
     LINE_GONE                    /* hang-up, unplugged, or an error in errno */
 };
 

@@ -87,9 +87,11 @@ static void print_answer(struct answer answer, struct counts *counts)
     mfc_reply reply = answer.reply;
 
     counts->polls++;
-    if (answer.ending == SILENT) {
+    if (answer.ending == SILENT || answer.ending == NOISE) {
         counts->silent++;
-        (void)printf("no answer (check the controller's power, address and baud rate)");
+        (void)printf("no answer (%s)", answer.ending == SILENT
+                     ? "check the controller's power, address and baud rate"
+                     : "only noise: check the cable, its 120 ohm terminations and the baud rate");
     } else if (answer.ending == ANSWERED && reply.reply == MEASURED_IS) {
         counts->answered++;
         reading_words(reply.value, text, sizeof text);
@@ -174,7 +176,7 @@ int main(int argc, char **argv)
         return NO_LINE;
     }
     status = poll_rounds(&line, &options, &counts);
-    (void)printf("polls %lu, answered %lu, refused %lu, silent %lu, stray bytes %lu\n",
+    (void)printf("polls %lu, answered %lu, refused %lu, no answer %lu, stray bytes %lu\n",
                  counts.polls, counts.answered, counts.refused, counts.silent, line.stray);
     line_close(&line);
     return status;
