@@ -20,7 +20,8 @@
 static uint8_t polling[TRAFFIC], escapes[TRAFFIC], damaged[TRAFFIC], any_bytes[TRAFFIC];
 static size_t polling_n, escapes_n, damaged_n;
 static struct poll polls[POLLS];
-static uint8_t letters[254], specials[254], sfc6_words[9], liquid_words[9];
+static uint8_t letters[255], specials[254];   /* 255 letters are one too many */
+static uint8_t sfc6_words[9], liquid_words[9];
 
 /* Answers go here, so that no compiler may leave a job out. */
 static volatile size_t sink;
@@ -251,6 +252,7 @@ static void compare_bodies(uint8_t request, uint8_t command, uint8_t state, cons
 static void compare_replies(uint8_t request)
 {
     static const uint8_t commands[] = { 0x00, 0x08, 0x22, 0x30, 0x40, 0x44, 0x45, 0x46, 0x90, 0x91, 0xD0, 0xD3 };
+    static const uint8_t states[4] = { 0x00, 0x00, 0x85, 0x80 };
 
     for (uint8_t reply = 0; reply <= 16; reply++)
         for (size_t v = 0; v < VALUES; v++) {
@@ -265,7 +267,7 @@ static void compare_replies(uint8_t request)
             for (unsigned k = 0; k < 4; k++)
                 data[k] = (uint8_t)(values[v] >> (24 - 8 * k));
             for (size_t n = 0; n <= 5; n++)
-                compare_bodies(request, commands[c], (uint8_t)(v % 4 == 3 ? 0x80 : v % 4 == 2 ? 0x85 : 0), data + (n < 4 ? 4 - n : 0), n);
+                compare_bodies(request, commands[c], states[v % 4], data + (n < 4 ? 4 - n : 0), n);
         }
 }
 
@@ -329,9 +331,9 @@ static void compare_all(void)
     for (size_t i = 0; i < POLLS; i++)
         compare_read_reply(polls[i].address, polls[i].request, 0, polls[i].body, polls[i].length);
     for (size_t n = 0; n <= 600; n++) {
-        uint8_t crc = mfc_crc((uint8_t)n, any_bytes + n, n);
+        uint8_t start = (uint8_t)n, crc = mfc_crc(start, any_bytes + n, n);
 
-        compare(crc == plain_crc((uint8_t)n, any_bytes + n, n) && crc == plain_crc_bitwise((uint8_t)n, any_bytes + n, n), "crc");
+        compare(crc == plain_crc(start, any_bytes + n, n) && crc == plain_crc_bitwise(start, any_bytes + n, n), "crc");
     }
     compare(mfc_crc(0xFF, any_bytes, TRAFFIC) == plain_crc(0xFF, any_bytes, TRAFFIC), "crc");
     compare_words(0xFF, sfc6_words);
@@ -500,7 +502,7 @@ static void lay_type(void)
     type_body[0] = 7;
     type_body[1] = 0xD0;
     type_body[3] = 255;
-    memcpy(type_body + 4, letters, sizeof letters);
+    memcpy(type_body + 4, letters, 255);
     type_body[259] = mfc_checksum(type_body, 259);
 }
 
@@ -585,10 +587,10 @@ int main(void)
     random_bytes(any_bytes, sizeof any_bytes);
     good_words(0xFF, sfc6_words, 3);
     good_words(0x00, liquid_words, 3);
-    for (size_t i = 0; i < sizeof letters; i++) {
+    for (size_t i = 0; i < sizeof letters; i++)
         letters[i] = (uint8_t)('A' + i % 26);
+    for (size_t i = 0; i < sizeof specials; i++)
         specials[i] = special[i % 4];
-    }
     compare_all();
     (void)printf("%lu answers compared, %lu different\n\n", compared, unlike);
     if (unlike > 0) {

@@ -149,17 +149,21 @@ static int is_finite(uint32_t bits)
     return (bits & 0x7F800000u) != 0x7F800000u;
 }
 
-/* A request's own refusals: 11, 12, 13, 10. */
-static uint8_t request_refusal(uint8_t address, uint8_t request, uint32_t value)
+/* A request's own refusals: 11, 12, 13, 10. Most requests carry nothing that can be wrong, so these come first. */
+static inline uint8_t request_refusal(uint8_t address, uint8_t request, uint32_t value)
 {
+    unsigned carries;
+
     if (request > 20)
         return 11;
-    switch (forms[request].carries) {
-    case FLOAT: return is_finite(value) ? 0 : 13;
-    case ADDRESS: return value > 254 ? 12 : address == 255 ? 10 : 0;
-    case BAUD: return is_baud(value) ? 0 : 12;
-    default: return 0;
-    }
+    carries = forms[request].carries;
+    if (carries == NOTHING || carries == NUMBER)
+        return 0;
+    if (carries == FLOAT)
+        return is_finite(value) ? 0 : 13;
+    if (carries == BAUD)
+        return is_baud(value) ? 0 : 12;
+    return value > 254 ? 12 : address == 255 ? 10 : 0;
 }
 
 /* A byte behind the frame so far, stuffed. */
@@ -230,12 +234,13 @@ struct plain_written plain_write_request(uint8_t address, uint8_t request, uint3
 
 /* ---- replies ---- */
 
-/* The refusal of a value in a reply: 12 or 13. */
-static uint8_t value_refusal(unsigned answers, uint32_t value)
+/* The refusal of a value in a reply: 12 or 13. The usual ones first again. */
+static inline uint8_t value_refusal(unsigned answers, uint32_t value)
 {
+    if (answers == NUMBER || (answers == FLOAT && is_finite(value)))
+        return 0;
     switch (answers) {
-    case FLOAT:
-        return is_finite(value) || value == 0xFFFFFFFFu || value == 0x7F800000u || value == 0xFF800000u ? 0 : 13;
+    case FLOAT: return value == 0xFFFFFFFFu || value == 0x7F800000u || value == 0xFF800000u ? 0 : 13;
     case SHORT: return value > 65535 ? 12 : 0;
     case BOOLEAN: return value > 1 ? 12 : 0;
     case ADDRESS: return value > 254 ? 12 : 0;
@@ -299,7 +304,7 @@ struct plain_written plain_write_reply(uint8_t address, uint8_t request, uint32_
         for (size_t i = 0; i < n; i++)
             whole = (uint8_t)(whole + text[i]);
         whole = (uint8_t)~whole;
-        if (2 + count_stuffed(head, 4 + size) + count_stuffed(text, n) + (answers == TEXT) + 1 + (size_t)special(whole) > room) {
+        if (3 + count_stuffed(head, 4 + size) + count_stuffed(text, n) + (answers == TEXT) + (size_t)special(whole) > room) {
             written.refusal = 1;
             return written;
         }
@@ -319,14 +324,24 @@ struct plain_written plain_write_reply(uint8_t address, uint8_t request, uint32_
     return written;
 }
 
+/* A number of 0, 1, 2 or 4 bytes, most significant first. */
+static inline uint32_t number_at(const uint8_t *data, size_t size)
+{
+    if (size == 4)
+        return (uint32_t)data[0] << 24 | (uint32_t)data[1] << 16 | (uint32_t)data[2] << 8 | data[3];
+    if (size == 2)
+        return (uint32_t)data[0] << 8 | data[1];
+    return size == 1 ? data[0] : 0;
+}
+
 struct plain_reply plain_read_reply(uint8_t address, uint8_t request, uint32_t value, const uint8_t *body, size_t n)
 {
     struct plain_reply answer = { 0, 0, 0, 0, 0, 0, 0 };
     const struct form *form;
     const uint8_t *data = body + 4;
-    uint8_t sum = 0, code;
+    unsigned sum = 0;
+    uint8_t code;
     size_t length;
-    uint32_t number = 0;
 
     answer.refusal = request_refusal(address, request, value);
     if (answer.refusal != 0)
@@ -336,8 +351,8 @@ struct plain_reply plain_read_reply(uint8_t address, uint8_t request, uint32_t v
         return answer;
     }
     for (size_t i = 0; i < n; i++)
-        sum = (uint8_t)(sum + body[i]);
-    if (sum != 0xFF) {
+        sum += body[i];
+    if ((sum & 0xFF) != 0xFF) {
         answer.refusal = 8;
         return answer;
     }
@@ -361,8 +376,8 @@ struct plain_reply plain_read_reply(uint8_t address, uint8_t request, uint32_t v
         answer.text_start = 4;
         answer.text_length = zero != NULL ? (size_t)(zero - data) : length;
     } else {
-        for (size_t i = 0; i < length; i++)
-            number = number << 8 | data[i];
+        uint32_t number = number_at(data, length);
+
         answer.refusal = value_refusal(form->answers, number);
         if (answer.refusal != 0)
             return answer;
@@ -407,7 +422,10 @@ uint8_t plain_crc(uint8_t start, const uint8_t *bytes, size_t n)
 static inline uint8_t step_bitwise(uint8_t crc)
 {
     for (int bit = 0; bit < 8; bit++)
-        crc = (uint8_t)(crc << 1 ^ (crc & 0x80 ? 0x31 : 0));
+        if (crc & 0x80)
+            crc = (uint8_t)(crc << 1 ^ 0x31);
+        else
+            crc = (uint8_t)(crc << 1);
     return crc;
 }
 
@@ -421,7 +439,8 @@ uint8_t plain_crc_bitwise(uint8_t start, const uint8_t *bytes, size_t n)
 }
 
 /* All words are checked before one is stored; the bytes are then at hand and the second pass costs little. */
-static inline struct plain_words read_words(const uint8_t *bytes, size_t n, uint16_t *words, size_t room, uint8_t start, int table)
+static inline struct plain_words read_words(const uint8_t *bytes, size_t n, uint16_t *words, size_t room, uint8_t start,
+                                            int table)
 {
     struct plain_words read = { 0, 0 };
     size_t count = n / 3;

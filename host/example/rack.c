@@ -519,6 +519,7 @@ int main(int argc, char **argv)
     if (mfc_receiver_fresh(0, rack.record, sizeof rack.record) != 0 || !open_terminal(&rack))
         return 3;
     run(&rack);
-    (void)printf("requests %lu, unheard %lu, answers %lu, damaged %lu\n", rack.requests, rack.unheard, rack.answers, rack.damaged);
+    (void)printf("requests %lu, unheard %lu, answers %lu, damaged %lu\n",
+                 rack.requests, rack.unheard, rack.answers, rack.damaged);
     return 0;
 }

@@ -37,17 +37,18 @@
  *      2  measured value             9  temperature                   16  get slave address
  *      3  get gain                  10  number of calibrations        17  set slave address     0 to 254
  *      4  set gain        float     11  calibration validity  index   18  get baud rate
- *      5  get init step             12  full scale                    19  set baud rate         9600, 19200, 38400, 57600, 115200
+ *      5  get init step             12  full scale                    19  set baud rate         one of five
  *      6  set init step   float     13  get calibration               20  product type
  *
- * Beside a request that takes no value, `value` is not looked at. A float is given by its 32 bits and must be finite.
+ * Beside a request that takes no value, `value` is not looked at. A float is given by its 32 bits and must be finite. A baud
+ * rate is 9600, 19200, 38400, 57600 or 115200, here and in a reply.
  *
  * Replies, with what `value` is:
  *
  *      0  acknowledged (no data)     6  raw conductivity   u16        12  slave address  0 to 254
- *      1  setpoint       float       7  temperature        float      13  baud rate      as in a request
+ *      1  setpoint       float       7  temperature        float      13  baud rate      one of five
  *      2  measured value float       8  number of calibrations  u32   14  product type   its text stands beside it
- *      3  gain           float       9  validity           0 or 1     15  device error   written only; value is its code, 1 to 127
+ *      3  gain           float       9  validity           0 or 1     15  device error   its code, 1 to 127; written only
  *      4  init step      float      10  full scale         float
  *      5  raw flow       u16        11  calibration        u32
  *
