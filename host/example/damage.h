@@ -15,7 +15,7 @@ struct rate {
 /* All that may be done to an answer. */
 struct damage {
     struct rate drop, flip;                          /* for each byte */
-    struct rate noise, cut, pause, late, wrong;      /* for each answer */
+    struct rate noise, cut, pause, late, held, wrong; /* for each answer */
     uint64_t state;                                  /* of the random numbers */
 };
 

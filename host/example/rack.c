@@ -24,6 +24,7 @@
 #define SILENCE_MS 200           /* the maker's interbyte timeout */
 #define LONGEST_REPLY 518        /* on the wire */
 #define WAITING 64               /* answers held back at one time */
+#define AHEAD 1200               /* bytes held for the next piece: two answers, or an echo */
 
 /* The maker's error codes that a rack without sensors needs. */
 enum { DATA_SIZE = 1, UNKNOWN_COMMAND = 2, PARAMETER = 4, INVALID_CALIBRATION = 51 };
@@ -38,8 +39,10 @@ static const char help[] =
     "  --cut RATE      fall silent inside an answer\n"
     "  --pause RATE    fall silent inside an answer and send the rest late\n"
     "  --late RATE     send an answer late\n"
+    "  --held RATE     send an answer only before the next one, in one piece with it\n"
     "  --wrong RATE    answer from the next controller's address\n"
     "  --requests      let --drop and --flip strike the requests too\n"
+    "  --echo          send the master its own request back, in one piece with the answer, as a two-wire line may\n"
     "  --delay MS      what late means (1 to 10000, default 300)\n"
     "  --seed N        other random numbers (default 1)\n"
     "  --seconds N     stop after N seconds (1 to 86400, default none)\n"
@@ -70,11 +73,13 @@ struct waiting {
 struct rack {
     struct controller controllers[RACK];
     struct damage damage;
-    int damage_requests;
+    int damage_requests, echo;
     long delay_ms, seconds;
     int master, slave;           /* the slave is held open, so that the line lives on between two masters */
     uint8_t record[264], frame[260];
     struct waiting waiting[WAITING];
+    uint8_t ahead[AHEAD];        /* what goes out before the next bytes, in one piece with them */
+    size_t ahead_n;
     unsigned long requests, unheard, answers, damaged;
 };
 
@@ -156,14 +161,25 @@ static struct said execute(struct controller *c, uint8_t request, uint32_t value
 
 /* ---- the line ---- */
 
+/* Keeps bytes to be sent ahead of the next. */
+static void put_ahead(struct rack *rack, const uint8_t *bytes, size_t n)
+{
+    if (n > AHEAD - rack->ahead_n)
+        return;
+    memcpy(rack->ahead + rack->ahead_n, bytes, n);
+    rack->ahead_n += n;
+}
+
+/* Sends bytes. A line does not wait for a master that does not listen: what the terminal cannot hold is lost. */
 static void put_now(struct rack *rack, const uint8_t *bytes, size_t n)
 {
-    /* A line does not wait for a master that does not listen: what the terminal cannot hold is lost. */
     ssize_t sent;
 
+    put_ahead(rack, bytes, n);
     do
-        sent = write(rack->master, bytes, n);
+        sent = write(rack->master, rack->ahead, rack->ahead_n);
     while (sent < 0 && errno == EINTR);
+    rack->ahead_n = 0;
 }
 
 static void put_later(struct rack *rack, const uint8_t *bytes, size_t n)
@@ -204,7 +220,7 @@ static void put_answer(struct rack *rack, const uint8_t *frame, size_t length)
     unsigned struck = 0;
     size_t n = pass_over(damage, frame, length, bytes, &struck), first = n;
     int late = strikes(damage, &damage->late), pause = strikes(damage, &damage->pause);
-    int cut = strikes(damage, &damage->cut);
+    int cut = strikes(damage, &damage->cut), held = strikes(damage, &damage->held);
 
     if (strikes(damage, &damage->noise)) {
         n = first = add_noise(damage, bytes, n);
@@ -213,9 +229,13 @@ static void put_answer(struct rack *rack, const uint8_t *frame, size_t length)
     if ((cut || pause) && n > 1)
         first = 1 + random_under(damage, (uint32_t)n - 1);
     rack->answers++;
-    rack->damaged += struck > 0 || late || pause || cut;
+    rack->damaged += struck > 0 || late || pause || cut || held;
     if (late) {
         put_later(rack, bytes, n);
+        return;
+    }
+    if (held) {
+        put_ahead(rack, bytes, n);
         return;
     }
     put_now(rack, bytes, first);
@@ -359,10 +379,17 @@ static void hear(struct rack *rack)
     ssize_t n = read(rack->master, bytes, sizeof bytes);
     unsigned struck = 0;
 
-    if (n > 0 && rack->damage_requests)
+    if (n <= 0)
+        return;
+    if (rack->echo)
+        put_ahead(rack, bytes, (size_t)n);
+    if (rack->damage_requests)
         take(rack, heard, pass_over(&rack->damage, bytes, (size_t)n, heard, &struck));
-    else if (n > 0)
+    else
         take(rack, bytes, (size_t)n);
+    /* Nobody answered: the echo alone. */
+    if (rack->echo && rack->ahead_n > 0)
+        put_now(rack, bytes, 0);
 }
 
 static void run(struct rack *rack)
@@ -444,7 +471,7 @@ static struct rate *rate_of(struct damage *damage, const char *option)
 {
     struct { const char *name; struct rate *rate; } const rates[] = {
         { "--drop", &damage->drop }, { "--flip", &damage->flip }, { "--noise", &damage->noise }, { "--cut", &damage->cut },
-        { "--pause", &damage->pause }, { "--late", &damage->late }, { "--wrong", &damage->wrong },
+        { "--pause", &damage->pause }, { "--late", &damage->late }, { "--held", &damage->held }, { "--wrong", &damage->wrong },
     };
 
     for (size_t i = 0; i < sizeof rates / sizeof rates[0]; i++)
@@ -471,6 +498,8 @@ static int read_options(struct rack *rack, int argc, char **argv)
             good = read_rate(argv[++i], rate);
         } else if (strcmp(option, "--requests") == 0) {
             good = rack->damage_requests = 1;
+        } else if (strcmp(option, "--echo") == 0) {
+            good = rack->echo = 1;
         } else if (strcmp(option, "--delay") == 0) {
             good = read_number(argv[++i], 1, 10000, &rack->delay_ms);
         } else if (strcmp(option, "--seconds") == 0) {
