@@ -34,10 +34,10 @@ struct plain_written plain_write_reply(uint8_t address, uint8_t request, uint32_
                                        const uint8_t *text, size_t n, uint8_t bit7, uint8_t *out, size_t room);
 struct plain_reply plain_read_reply(uint8_t address, uint8_t request, uint32_t value, const uint8_t *body, size_t n);
 
-/* CRC-8 with 256 bytes of table, and bit by bit for boards without room for one. */
+/* CRC-8 with a table of 256 bytes, and folded for boards without room for one. */
 uint8_t plain_crc(uint8_t start, const uint8_t *bytes, size_t n);
-uint8_t plain_crc_bitwise(uint8_t start, const uint8_t *bytes, size_t n);
+uint8_t plain_crc_folded(uint8_t start, const uint8_t *bytes, size_t n);
 struct plain_words plain_read_words(uint8_t start, const uint8_t *bytes, size_t n, uint16_t *words, size_t room);
-struct plain_words plain_read_words_bitwise(uint8_t start, const uint8_t *bytes, size_t n, uint16_t *words, size_t room);
+struct plain_words plain_read_words_folded(uint8_t start, const uint8_t *bytes, size_t n, uint16_t *words, size_t room);
 
 #endif
