@@ -296,8 +296,11 @@ static struct answer listen_for(struct line *line, uint8_t address, uint8_t requ
 
         if (heard == GONE)
             return ended(LINE_GONE, 0);
-        if (refusal == 1 || refusal == 2)
+        if (refusal == 1 || refusal == 2) {
+            /* Only a fault of this program spoils the record. The next question gets a good one. */
+            (void)mfc_receiver_fresh(1, line->record, sizeof line->record);
             return ended(REFUSED, refusal);
+        }
         if (fed.frame_length != 0) {
             mfc_reply reply = mfc_read_reply(address, request, value, line->frame, fed.frame_length);
 

@@ -40,7 +40,11 @@ const char *line_open(struct line *line, const char *device, int timeout_ms);
 /* Changes the baud rate to one of the five. Returns 0 if the device does not take it. */
 int line_speed(struct line *line, uint32_t baud);
 
-/* Asks one controller one question and waits for its answer. */
+/* Asks one controller one question and waits for its answer.
+   A frame has no sequence number. An answer that comes late is told from the next one by address and command; if a question is
+   repeated, ask another in between, as a polling round does.
+   On a two-wire line that echoes, the echo of most requests is refused and passed over. That of get gain, raw flow, number of
+   calibrations, product type and set address 0 has the bytes of an error answer (code 1): use an adapter that does not echo. */
 struct answer line_ask(struct line *line, uint8_t address, uint8_t request, uint32_t value);
 
 /* Sends bytes as they are, after what line_ask does before a question. Returns 0 if the line is gone. */
