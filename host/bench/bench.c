@@ -1,0 +1,660 @@
+/* bench: the library beside plain C on the same jobs, and the stack that each exported function uses.
+ *
+ * The two take turns in short slices within one process, so that other load on the machine hits both, and medians are shown.
+ * Before anything is timed, both must give the same answers on the bytes measured and on many others. */
+#define _POSIX_C_SOURCE 200809L
+#include "mfc.h"
+#include "plain.h"
+#include "stack.h"
+#include "traffic.h"
+
+#include <stdio.h>
+#include <stdlib.h>
+#include <string.h>
+#include <time.h>
+
+#define SLICES 201
+#define SLICE_NS 200000.0
+#define LONGEST 600              /* room for any frame */
+
+static uint8_t polling[TRAFFIC], escapes[TRAFFIC], damaged[TRAFFIC], any_bytes[TRAFFIC];
+static size_t polling_n, escapes_n, damaged_n;
+static struct poll polls[POLLS];
+static uint8_t letters[255], specials[254];   /* 255 letters are one too many */
+static uint8_t sfc6_words[9], liquid_words[9];
+
+/* Answers go here, so that no compiler may leave a job out. */
+static volatile size_t sink;
+
+/* ---- the jobs ---- */
+
+static struct { const uint8_t *bytes; size_t n, piece; } wire;
+static uint8_t record[264], frame[260], out[LONGEST];
+static struct plain_receiver receiver;
+
+static size_t smaller(size_t a, size_t b)
+{
+    return a < b ? a : b;
+}
+
+static void feed_library(void)
+{
+    size_t frames = 0;
+
+    for (size_t at = 0; at < wire.n; at += wire.piece) {
+        const uint8_t *piece = wire.bytes + at;
+        size_t left = smaller(wire.piece, wire.n - at);
+
+        while (left > 0) {
+            mfc_fed fed = mfc_feed(record, sizeof record, piece, left, frame, sizeof frame);
+
+            frames += fed.frame_length;
+            piece += fed.taken;
+            left -= fed.taken;
+        }
+    }
+    sink = frames;
+}
+
+static void feed_plain(void)
+{
+    size_t frames = 0;
+
+    for (size_t at = 0; at < wire.n; at += wire.piece) {
+        const uint8_t *piece = wire.bytes + at;
+        size_t left = smaller(wire.piece, wire.n - at);
+
+        while (left > 0) {
+            size_t taken = plain_feed(&receiver, piece, left);
+
+            frames += receiver.frame_length;
+            piece += taken;
+            left -= taken;
+        }
+    }
+    sink = frames;
+}
+
+/* A round's requests, each into the room left behind the one before. */
+static void requests_library(void)
+{
+    static uint8_t round[LONGEST];
+    size_t at = 0;
+
+    for (size_t i = 0; i < POLLS; i++)
+        at += mfc_write_request(polls[i].address, polls[i].request, 0, round + at, sizeof round - at).length;
+    sink = at;
+}
+
+static void requests_plain(void)
+{
+    static uint8_t round[LONGEST];
+    size_t at = 0;
+
+    for (size_t i = 0; i < POLLS; i++)
+        at += plain_write_request(polls[i].address, polls[i].request, 0, round + at, sizeof round - at).length;
+    sink = at;
+}
+
+static void setpoints_library(void)
+{
+    for (size_t i = 0; i < POLLS; i++)
+        sink = mfc_write_request(polls[i].address, 1, polls[i].value, out, sizeof out).length;
+}
+
+static void setpoints_plain(void)
+{
+    for (size_t i = 0; i < POLLS; i++)
+        sink = plain_write_request(polls[i].address, 1, polls[i].value, out, sizeof out).length;
+}
+
+static const uint8_t *text = specials;
+
+static void reply_library(void)
+{
+    sink = mfc_write_reply(0x11, 20, 0, 14, 0, text, 254, 0, out, sizeof out).length;
+}
+
+static void reply_plain(void)
+{
+    sink = plain_write_reply(0x11, 20, 0, 14, 0, text, 254, 0, out, sizeof out).length;
+}
+
+static void read_library(void)
+{
+    size_t sum = 0;
+
+    for (size_t i = 0; i < POLLS; i++)
+        sum += mfc_read_reply(polls[i].address, polls[i].request, 0, polls[i].body, polls[i].length).value;
+    sink = sum;
+}
+
+static void read_plain(void)
+{
+    size_t sum = 0;
+
+    for (size_t i = 0; i < POLLS; i++)
+        sum += plain_read_reply(polls[i].address, polls[i].request, 0, polls[i].body, polls[i].length).value;
+    sink = sum;
+}
+
+/* Short calls are made in a row, each on other bytes, so that the clock's own cost does not count. */
+#define ROW 64
+
+static size_t crc_n, crc_row;
+
+static void crc_library(void)
+{
+    size_t sum = 0;
+
+    for (size_t i = 0; i < crc_row; i++)
+        sum += mfc_crc(0xFF, any_bytes + i, crc_n);
+    sink = sum;
+}
+
+static void crc_plain(void)
+{
+    size_t sum = 0;
+
+    for (size_t i = 0; i < crc_row; i++)
+        sum += plain_crc(0xFF, any_bytes + i, crc_n);
+    sink = sum;
+}
+
+static void crc_folded(void)
+{
+    size_t sum = 0;
+
+    for (size_t i = 0; i < crc_row; i++)
+        sum += plain_crc_folded(0xFF, any_bytes + i, crc_n);
+    sink = sum;
+}
+
+static uint16_t words[3];
+static uint8_t row_of_words[9 * ROW];
+
+static void words_library(void)
+{
+    size_t sum = 0;
+
+    for (size_t i = 0; i < ROW; i++)
+        sum += mfc_read_words(0xFF, row_of_words + 9 * i, 9, words, 3).count + words[2];
+    sink = sum;
+}
+
+static void words_plain(void)
+{
+    size_t sum = 0;
+
+    for (size_t i = 0; i < ROW; i++)
+        sum += plain_read_words(0xFF, row_of_words + 9 * i, 9, words, 3).count + words[2];
+    sink = sum;
+}
+
+static void words_folded(void)
+{
+    size_t sum = 0;
+
+    for (size_t i = 0; i < ROW; i++)
+        sum += plain_read_words_folded(0xFF, row_of_words + 9 * i, 9, words, 3).count + words[2];
+    sink = sum;
+}
+
+/* ---- the same answers ---- */
+
+static unsigned long compared, unlike;
+
+static void compare(int same, const char *what)
+{
+    compared++;
+    if (!same && unlike++ < 10)
+        (void)printf("different answers: %s\n", what);
+}
+
+static void compare_feeds(uint8_t kind, const uint8_t *bytes, size_t n, size_t piece)
+{
+    compare(mfc_receiver_fresh(kind, record, sizeof record) == 0, "fresh");
+    plain_fresh(&receiver, kind);
+    for (size_t at = 0; at < n;) {
+        size_t length = smaller(piece, n - at);
+        mfc_fed fed = mfc_feed(record, sizeof record, bytes + at, length, frame, sizeof frame);
+        size_t taken = plain_feed(&receiver, bytes + at, length);
+
+        compare(fed.taken == taken && fed.refusal == receiver.refusal && fed.frame_length == receiver.frame_length
+                && memcmp(frame, receiver.store, fed.frame_length) == 0, "feed");
+        if (taken == 0 || fed.taken != taken)
+            return;
+        at += taken;
+        /* A silence now and then, at another place each time. */
+        if (at % 997 < piece && at % 5 == 0)
+            compare(mfc_silence(record, sizeof record) == plain_silence(&receiver), "silence");
+    }
+}
+
+static const uint32_t values[] = {
+    0, 1, 2, 17, 254, 255, 256, 9600, 14400, 19200, 38400, 57600, 65535, 65536, 115200, 0x3F800000, 0x7D7E1113, 0x7F7FFFFF,
+    0x7F800000, 0x7F800001, 0x7FC00000, 0x80000000, 0xFF800000, 0xFFC00000, 0xFFFFFFFF,
+};
+#define VALUES (sizeof values / sizeof values[0])
+static const uint8_t addresses[] = { 0, 1, 0x11, 0x13, 0x3C, 0x7D, 0x7E, 0xA7, 0xA9, 254, 255 };
+
+static void compare_requests(uint8_t address, uint8_t request, uint32_t value)
+{
+    static uint8_t one[32], other[32];
+
+    for (size_t room = 0; room <= 20; room++) {
+        mfc_written a;
+        struct plain_written b;
+
+        memset(one, 0xAA, sizeof one);
+        memset(other, 0xAA, sizeof other);
+        a = mfc_write_request(address, request, value, one, room);
+        b = plain_write_request(address, request, value, other, room);
+        compare(a.refusal == b.refusal && a.length == b.length && memcmp(one, other, sizeof one) == 0, "write request");
+    }
+}
+
+static void compare_written_reply(uint8_t address, uint8_t request, uint8_t reply, uint32_t value, const uint8_t *bytes,
+                                  size_t n, size_t room)
+{
+    static uint8_t one[LONGEST], other[LONGEST];
+    uint8_t bit7 = (uint8_t)(value % 3 == 1);
+    mfc_written a;
+    struct plain_written b;
+
+    memset(one, 0xAA, sizeof one);
+    memset(other, 0xAA, sizeof other);
+    a = mfc_write_reply(address, request, 5, reply, value, bytes, n, bit7, one, room);
+    b = plain_write_reply(address, request, 5, reply, value, bytes, n, bit7, other, room);
+    compare(a.refusal == b.refusal && a.length == b.length && memcmp(one, other, sizeof one) == 0, "write reply");
+}
+
+static void compare_read_reply(uint8_t address, uint8_t request, uint32_t value, const uint8_t *body, size_t n)
+{
+    mfc_reply a = mfc_read_reply(address, request, value, body, n);
+    struct plain_reply b = plain_read_reply(address, request, value, body, n);
+
+    compare(a.refusal == b.refusal && a.code == b.code && a.bit7 == b.bit7 && a.reply == b.reply && a.value == b.value
+            && a.text_start == b.text_start && a.text_length == b.text_length, "read reply");
+}
+
+/* A body with a right checksum, then the same with each byte off by one. */
+static void compare_bodies(uint8_t request, uint8_t command, uint8_t state, const uint8_t *data, size_t n)
+{
+    uint8_t body[261] = { 7 };
+
+    body[1] = command;
+    body[2] = state;
+    body[3] = (uint8_t)n;
+    if (n > 0)
+        memcpy(body + 4, data, n);
+    body[4 + n] = mfc_checksum(body, 4 + n);
+    compare_read_reply(7, request, 5, body, n + 5);
+    compare_read_reply(8, request, 5, body, n + 5);
+    compare_read_reply(7, request, 5, body, n + 4);
+    for (size_t i = 0; i < n + 5; i++) {
+        body[i]++;
+        compare_read_reply(7, request, 5, body, n + 5);
+        body[i]--;
+    }
+}
+
+static void compare_replies(uint8_t request)
+{
+    static const uint8_t commands[] = { 0x00, 0x08, 0x22, 0x30, 0x40, 0x44, 0x45, 0x46, 0x90, 0x91, 0xD0, 0xD3 };
+    static const uint8_t states[4] = { 0x00, 0x00, 0x85, 0x80 };
+
+    for (uint8_t reply = 0; reply <= 16; reply++)
+        for (size_t v = 0; v < VALUES; v++) {
+            compare_written_reply(7, request, reply, values[v], specials, 3, LONGEST);
+            compare_written_reply(0x11, request, reply, values[v], letters, 254, 10 + v % 8);
+        }
+    compare_written_reply(255, request, 15, 1, letters, 3, LONGEST);
+    for (size_t c = 0; c < sizeof commands; c++)
+        for (size_t v = 0; v < VALUES; v++) {
+            uint8_t data[5] = { 0, 0, 0, 0, 9 };
+
+            for (unsigned k = 0; k < 4; k++)
+                data[k] = (uint8_t)(values[v] >> (24 - 8 * k));
+            for (size_t n = 0; n <= 5; n++)
+                compare_bodies(request, commands[c], states[v % 4], data + (n < 4 ? 4 - n : 0), n);
+        }
+}
+
+static void compare_texts(void)
+{
+    uint8_t data[255];
+
+    for (size_t room = 0; room <= LONGEST; room++) {
+        compare_written_reply(0x11, 20, 14, 0, specials, 254, room);
+        compare_written_reply(3, 20, 14, 0, letters, room % 256, room);
+    }
+    compare_written_reply(3, 20, 14, 0, NULL, 0, LONGEST);
+    memcpy(data, letters, 254);
+    data[100] = 0;
+    data[254] = 0x41;
+    compare_written_reply(3, 20, 14, 0, data, 254, LONGEST);
+    compare_written_reply(3, 20, 14, 0, data, 255, LONGEST);
+    for (size_t n = 0; n <= 255; n++)
+        compare_bodies(20, 0xD0, 0, data, n);
+}
+
+static void compare_words(uint8_t start, uint8_t *bytes)
+{
+    for (size_t n = 0; n <= 9; n++)
+        for (size_t room = 0; room <= 3; room++)
+            for (unsigned flip = 0; flip <= 72; flip++) {
+                uint16_t one[4] = { 1, 2, 3, 4 }, other[4] = { 1, 2, 3, 4 }, third[4] = { 1, 2, 3, 4 };
+                mfc_words a;
+                struct plain_words b, c;
+
+                if (flip < 72)
+                    bytes[flip / 8] = (uint8_t)(bytes[flip / 8] ^ 1u << flip % 8);
+                a = mfc_read_words(start, bytes, n, one, room);
+                b = plain_read_words(start, bytes, n, other, room);
+                c = plain_read_words_folded(start, bytes, n, third, room);
+                compare(a.refusal == b.refusal && a.count == b.count && memcmp(one, other, sizeof one) == 0
+                        && a.refusal == c.refusal && a.count == c.count && memcmp(one, third, sizeof one) == 0, "read words");
+                if (flip < 72)
+                    bytes[flip / 8] = (uint8_t)(bytes[flip / 8] ^ 1u << flip % 8);
+            }
+}
+
+static void compare_all(void)
+{
+    static const size_t pieces[] = { 1, 7, 16, 4096 };
+
+    for (uint8_t kind = 0; kind <= 1; kind++)
+        for (size_t p = 0; p < sizeof pieces / sizeof pieces[0]; p++) {
+            compare_feeds(kind, polling, polling_n, pieces[p]);
+            compare_feeds(kind, escapes, escapes_n, pieces[p]);
+            compare_feeds(kind, damaged, damaged_n, pieces[p]);
+            compare_feeds(kind, any_bytes, sizeof any_bytes, pieces[p]);
+        }
+    for (size_t a = 0; a < sizeof addresses; a++)
+        for (uint8_t request = 0; request <= 21; request++)
+            for (size_t v = 0; v < VALUES; v++)
+                compare_requests(addresses[a], request, values[v]);
+    for (uint8_t request = 0; request <= 21; request++)
+        compare_replies(request);
+    compare_texts();
+    for (size_t i = 0; i < POLLS; i++)
+        compare_read_reply(polls[i].address, polls[i].request, 0, polls[i].body, polls[i].length);
+    for (size_t n = 0; n <= 600; n++) {
+        uint8_t start = (uint8_t)n, crc = mfc_crc(start, any_bytes + n, n);
+
+        compare(crc == plain_crc(start, any_bytes + n, n) && crc == plain_crc_folded(start, any_bytes + n, n), "crc");
+    }
+    compare(mfc_crc(0xFF, any_bytes, TRAFFIC) == plain_crc(0xFF, any_bytes, TRAFFIC), "crc");
+    for (unsigned i = 0; i < 65536; i++) {
+        uint8_t start = (uint8_t)(i >> 8), byte = (uint8_t)i;
+
+        compare(mfc_crc(start, &byte, 1) == plain_crc_folded(start, &byte, 1), "crc");
+    }
+    compare_words(0xFF, sfc6_words);
+    compare_words(0x00, liquid_words);
+}
+
+/* ---- the clock ---- */
+
+static double now_ns(void)
+{
+    struct timespec t;
+
+    (void)clock_gettime(CLOCK_MONOTONIC, &t);
+    return (double)t.tv_sec * 1e9 + (double)t.tv_nsec;
+}
+
+static double slice(void (*job)(void), unsigned times)
+{
+    double start = now_ns();
+
+    for (unsigned i = 0; i < times; i++)
+        job();
+    return (now_ns() - start) / times;
+}
+
+/* So many runs that a slice is long beside the clock and short beside a turn of the scheduler. */
+static unsigned times_for(void (*job)(void))
+{
+    unsigned times = 1;
+
+    while (times < 1000000 && slice(job, times) * times < SLICE_NS)
+        times *= 2;
+    return times;
+}
+
+static int by_size(const void *a, const void *b)
+{
+    double x = *(const double *)a, y = *(const double *)b;
+
+    return (x > y) - (x < y);
+}
+
+/* Sorts, and gives the value that so many quarters lie below. */
+static double quartile(double *values_of, unsigned quarters)
+{
+    qsort(values_of, SLICES, sizeof values_of[0], by_size);
+    return values_of[(SLICES - 1) * quarters / 4];
+}
+
+/* One line of the table; `units` is how many of `unit` one run does. */
+static void measure(const char *name, const char *unit, size_t units, void (*library)(void), void (*plain)(void))
+{
+    static double one[SLICES], other[SLICES], ratio[SLICES];
+    unsigned library_times = times_for(library), plain_times = times_for(plain);
+    double per = (double)units;
+
+    for (unsigned i = 0; i < SLICES; i++) {
+        /* Each goes first in turn. */
+        if (i % 2 == 0)
+            one[i] = slice(library, library_times);
+        other[i] = slice(plain, plain_times);
+        if (i % 2 != 0)
+            one[i] = slice(library, library_times);
+        ratio[i] = one[i] / other[i];
+    }
+    (void)printf("%-50s %10.2f %10.2f %7.2f   %.2f to %.2f   ns a %s\n", name, quartile(one, 2) / per, quartile(other, 2) / per,
+                 quartile(ratio, 2), quartile(ratio, 1), quartile(ratio, 3), unit);
+    (void)fflush(stdout);
+}
+
+static void measure_feed(const char *name, const uint8_t *bytes, size_t n, size_t piece)
+{
+    (void)mfc_receiver_fresh(1, record, sizeof record);
+    plain_fresh(&receiver, 1);
+    wire.bytes = bytes;
+    wire.n = n;
+    wire.piece = piece;
+    measure(name, "byte", n, feed_library, feed_plain);
+}
+
+static void measure_crc(const char *table, const char *folded, size_t n, size_t row)
+{
+    crc_n = n;
+    crc_row = row;
+    measure(table, "call", row, crc_library, crc_plain);
+    measure(folded, "call", row, crc_library, crc_folded);
+}
+
+static void measure_all(void)
+{
+    (void)printf("%-50s %10s %10s %7s   %s\n", "job", "library", "plain C", "ratio", "half of the ratios lie in");
+    measure_feed("receive polling traffic, pieces of 1", polling, polling_n, 1);
+    measure_feed("receive polling traffic, pieces of 16", polling, polling_n, 16);
+    measure_feed("receive polling traffic, pieces of 4,096", polling, polling_n, 4096);
+    measure_feed("receive traffic full of escapes, pieces of 1", escapes, escapes_n, 1);
+    measure_feed("receive traffic full of escapes, pieces of 16", escapes, escapes_n, 16);
+    measure_feed("receive traffic full of escapes, pieces of 4,096", escapes, escapes_n, 4096);
+    measure("write the requests of a polling round", "frame", POLLS, requests_library, requests_plain);
+    measure("write set setpoint", "frame", POLLS, setpoints_library, setpoints_plain);
+    text = letters;
+    measure("write a reply of 254 letters", "frame", 1, reply_library, reply_plain);
+    text = specials;
+    measure("write the longest reply, 518 bytes", "frame", 1, reply_library, reply_plain);
+    measure("read the replies of a polling round", "frame", POLLS, read_library, read_plain);
+    measure_crc("CRC of 2 bytes, C with a table", "CRC of 2 bytes, C without a table", 2, ROW);
+    measure_crc("CRC of 9 bytes, C with a table", "CRC of 9 bytes, C without a table", 9, ROW);
+    measure_crc("CRC of 65,536 bytes, C with a table", "CRC of 65,536 bytes, C without a table", TRAFFIC, 1);
+    measure("read three words, C with a table", "call", ROW, words_library, words_plain);
+    measure("read three words, C without a table", "call", ROW, words_library, words_folded);
+}
+
+/* ---- the stack ---- */
+
+static void use_checksum(void) { sink = mfc_checksum(any_bytes, 260); }
+static void use_crc(void) { sink = mfc_crc(0xFF, any_bytes, 260); }
+
+/* Good requests and refused ones, and rooms that hold them and do not. */
+static void use_write_request(void)
+{
+    for (uint8_t request = 0; request <= 21; request++)
+        for (size_t v = 0; v < VALUES; v++)
+            for (size_t room = 0; room <= 20; room += 5)
+                sink = mfc_write_request(0x11, request, values[v], out, room).length;
+}
+
+static void use_write_request_at(void)
+{
+    for (uint8_t request = 0; request <= 21; request++)
+        for (size_t v = 0; v < VALUES; v++)
+            for (size_t start = 0; start <= 24; start += 6)
+                sink = mfc_write_request_at(out, 20, start, 0x11, request, values[v]).length;
+}
+
+/* Bodies of all requests, and of some that are refused. */
+static struct { uint8_t body[260]; size_t length; } bodies[21 * VALUES];
+
+static void lay_bodies(void)
+{
+    for (size_t i = 0; i < 21 * VALUES; i++) {
+        mfc_written written = mfc_write_request(0x11, (uint8_t)(i / VALUES), values[i % VALUES], out, sizeof out);
+
+        (void)mfc_receiver_fresh(0, record, sizeof record);
+        bodies[i].length = mfc_feed(record, sizeof record, out, written.length, bodies[i].body, 260).frame_length;
+    }
+}
+
+static void use_read_request(void)
+{
+    for (size_t i = 0; i < 21 * VALUES; i++) {
+        sink = mfc_read_request(bodies[i].body, bodies[i].length).value;
+        sink = mfc_read_request(bodies[i].body, i % 260).value;
+    }
+}
+
+static void use_write_reply(void)
+{
+    for (uint8_t request = 0; request <= 20; request++)
+        for (uint8_t reply = 0; reply <= 15; reply++)
+            for (size_t v = 0; v < VALUES; v++)
+                sink = mfc_write_reply(0x11, request, 5, reply, values[v], specials, 254, 1, out, sizeof out).length;
+}
+
+static uint8_t type_body[260];
+
+static void lay_type(void)
+{
+    type_body[0] = 7;
+    type_body[1] = 0xD0;
+    type_body[3] = 255;
+    memcpy(type_body + 4, letters, 255);
+    type_body[259] = mfc_checksum(type_body, 259);
+}
+
+static void use_read_reply(void)
+{
+    for (uint8_t request = 0; request <= 20; request++)
+        for (size_t i = 0; i < POLLS; i++) {
+            sink = mfc_read_reply(polls[i].address, request, 5, polls[i].body, polls[i].length).value;
+            sink = mfc_read_reply(polls[i].address, request, 5, polls[i].body, i).value;
+        }
+    sink = mfc_read_reply(7, 20, 0, type_body, sizeof type_body).text_length;
+}
+
+static void use_fresh(void) { sink = mfc_receiver_fresh(1, record, sizeof record); }
+
+static void use_feed(void)
+{
+    for (size_t at = 0; at < damaged_n;)
+        at += mfc_feed(record, sizeof record, damaged + at, damaged_n - at, frame, sizeof frame).taken;
+    for (size_t at = 0; at < escapes_n;)
+        at += mfc_feed(record, sizeof record, escapes + at, smaller(16, escapes_n - at), frame, sizeof frame).taken;
+    sink = mfc_feed(record, sizeof record, damaged, 16, frame, 259).refusal;
+}
+
+static void use_silence(void) { sink = mfc_silence(record, sizeof record); }
+
+static void use_read_words(void)
+{
+    for (size_t n = 0; n <= 9; n++)
+        sink = mfc_read_words(0xFF, sfc6_words, n, words, 3).count;
+    sink = mfc_read_words(0x00, sfc6_words, 9, words, 3).count;
+}
+
+static void use_write_words(void) { sink = mfc_write_words(0xFF, words, 3, out, sizeof out).length; }
+
+static void use_write_sfc6(void)
+{
+    sink = mfc_write_sfc6(0xE17D, 500, out, sizeof out).length;
+    sink = mfc_write_sfc6(0x3FEF, 0, out, sizeof out).length;
+    sink = mfc_write_sfc6(0x1234, 0, out, sizeof out).length;
+}
+
+static void use_write_liquid(void)
+{
+    sink = mfc_write_liquid(0xE2, 0x1234, out, sizeof out).length;
+    sink = mfc_write_liquid(0xF1, 0, out, sizeof out).length;
+    sink = mfc_write_liquid(0x12, 0, out, sizeof out).length;
+}
+
+static void use_edit_user(void) { sink = mfc_edit_user(0xFFFF, 3).value; }
+static void use_edit_advanced(void) { sink = mfc_edit_advanced(0xFFFF, 3).value; }
+static void use_scaled(void) { sink = (size_t)mfc_scaled(-12345, 6789, 17).value; }
+static void use_scaled_float(void) { sink = mfc_scaled_float(-12345, 6789, 17).refusal; }
+
+static void print_stacks(void)
+{
+    static const struct { const char *name; void (*use)(void); } uses[] = {
+        { "mfc_checksum", use_checksum }, { "mfc_crc", use_crc }, { "mfc_write_request", use_write_request },
+        { "mfc_write_request_at", use_write_request_at }, { "mfc_read_request", use_read_request },
+        { "mfc_write_reply", use_write_reply }, { "mfc_read_reply", use_read_reply }, { "mfc_receiver_fresh", use_fresh },
+        { "mfc_feed", use_feed }, { "mfc_silence", use_silence }, { "mfc_read_words", use_read_words },
+        { "mfc_write_words", use_write_words }, { "mfc_write_sfc6", use_write_sfc6 }, { "mfc_write_liquid", use_write_liquid },
+        { "mfc_edit_user", use_edit_user }, { "mfc_edit_advanced", use_edit_advanced }, { "mfc_scaled", use_scaled },
+        { "mfc_scaled_float", use_scaled_float },
+    };
+
+    lay_bodies();
+    lay_type();
+    (void)printf("\ndeepest stack, with the caller's frame\n");
+    for (size_t i = 0; i < sizeof uses / sizeof uses[0]; i++)
+        (void)printf("%-50s %10lu   bytes\n", uses[i].name, (unsigned long)stack_use(uses[i].use));
+}
+
+int main(void)
+{
+    static const uint8_t special[4] = { 0x7E, 0x7D, 0x11, 0x13 };
+
+    polling_round(polls);
+    polling_n = polling_traffic(polling, sizeof polling);
+    escapes_n = escape_traffic(escapes, sizeof escapes);
+    damaged_n = damaged_traffic(damaged, sizeof damaged);
+    random_bytes(any_bytes, sizeof any_bytes);
+    good_words(0xFF, sfc6_words, 3);
+    good_words(0x00, liquid_words, 3);
+    good_words(0xFF, row_of_words, 3 * ROW);
+    for (size_t i = 0; i < sizeof letters; i++)
+        letters[i] = (uint8_t)('A' + i % 26);
+    for (size_t i = 0; i < sizeof specials; i++)
+        specials[i] = special[i % 4];
+    compare_all();
+    (void)printf("%lu answers compared, %lu different\n\n", compared, unlike);
+    if (unlike > 0) {
+        (void)printf("nothing is timed while the answers differ\n");
+        return 1;
+    }
+    measure_all();
+    print_stacks();
+    return 0;
+}

@@ -1,0 +1,43 @@
+/* plain.h: the same jobs in plain C, as one writes them for a small board: in place, one pass where one will do, no copy that
+ * the job does not need. The measurements set the library beside these. */
+#ifndef PLAIN_H
+#define PLAIN_H
+
+#include <stddef.h>
+#include <stdint.h>
+
+/* A receiver hands out its own store, so no frame is copied: a body stands there until the next byte is fed. */
+struct plain_receiver {
+    uint8_t kind;                /* 0 requests, 1 replies */
+    uint8_t mode;
+    uint8_t sum;                 /* of the body so far */
+    uint8_t refusal;             /* of the last call's item, else 0 */
+    uint16_t length;             /* of the body so far, stopping at 261 */
+    uint16_t frame_length;       /* of the last call's frame, else 0 */
+    uint8_t store[260];
+};
+
+struct plain_written { uint8_t refusal; size_t length; };
+struct plain_words { uint8_t refusal; size_t count; };
+struct plain_reply { uint8_t refusal, code, bit7, reply; uint32_t value; size_t text_start, text_length; };
+
+void plain_fresh(struct plain_receiver *receiver, uint8_t kind);
+
+/* Takes bytes up to the end of the first item, or all; returns how many. */
+size_t plain_feed(struct plain_receiver *receiver, const uint8_t *piece, size_t n);
+
+/* Returns 9 where the silence cut a stretch, else 0. */
+uint8_t plain_silence(struct plain_receiver *receiver);
+
+struct plain_written plain_write_request(uint8_t address, uint8_t request, uint32_t value, uint8_t *out, size_t room);
+struct plain_written plain_write_reply(uint8_t address, uint8_t request, uint32_t value, uint8_t reply, uint32_t reply_value,
+                                       const uint8_t *text, size_t n, uint8_t bit7, uint8_t *out, size_t room);
+struct plain_reply plain_read_reply(uint8_t address, uint8_t request, uint32_t value, const uint8_t *body, size_t n);
+
+/* CRC-8 with a table of 256 bytes, and folded for boards without room for one. */
+uint8_t plain_crc(uint8_t start, const uint8_t *bytes, size_t n);
+uint8_t plain_crc_folded(uint8_t start, const uint8_t *bytes, size_t n);
+struct plain_words plain_read_words(uint8_t start, const uint8_t *bytes, size_t n, uint16_t *words, size_t room);
+struct plain_words plain_read_words_folded(uint8_t start, const uint8_t *bytes, size_t n, uint16_t *words, size_t room);
+
+#endif

@@ -1,0 +1,22 @@
+/* A program that holds every function of the library, or none: their sizes are compared. */
+#include "mfc.h"
+
+typedef void (*any)(void);
+
+#ifdef WITH_LIBRARY
+static const any functions[] = {
+    (any)mfc_checksum, (any)mfc_crc, (any)mfc_write_request, (any)mfc_write_request_at, (any)mfc_read_request,
+    (any)mfc_write_reply, (any)mfc_read_reply, (any)mfc_receiver_fresh, (any)mfc_feed, (any)mfc_silence, (any)mfc_read_words,
+    (any)mfc_write_words, (any)mfc_write_sfc6, (any)mfc_write_liquid, (any)mfc_edit_user, (any)mfc_edit_advanced,
+    (any)mfc_scaled, (any)mfc_scaled_float,
+};
+#else
+static const any functions[] = { 0 };
+#endif
+
+const any *volatile kept = functions;
+
+int main(void)
+{
+    return kept == 0;
+}

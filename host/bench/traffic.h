@@ -1,0 +1,36 @@
+/* traffic.h: bytes to measure on, the same in every run. */
+#ifndef TRAFFIC_H
+#define TRAFFIC_H
+
+#include <stddef.h>
+#include <stdint.h>
+
+#define TRAFFIC 65536
+
+/* One question of a polling round and the body that answers it. */
+struct poll {
+    uint8_t address, request;
+    uint32_t value;              /* of the answer */
+    uint8_t body[260];
+    size_t length;
+};
+
+#define POLLS 48
+
+/* A round over the addresses 0 to 23: measured value and calibration of each. */
+void polling_round(struct poll *polls);
+
+/* What a rack answers in round after round, whole frames up to `room` bytes. Returns how many bytes. */
+size_t polling_traffic(uint8_t *out, size_t room);
+
+/* Answers in which every byte of address and data needs an escape, some of them product types of 254 letters. */
+size_t escape_traffic(uint8_t *out, size_t room);
+
+/* Polling traffic with a damaged byte every so often, so that every refusal of the receiver arises. */
+size_t damaged_traffic(uint8_t *out, size_t room);
+
+/* Random bytes, and words of 3 bytes with good CRCs. */
+void random_bytes(uint8_t *out, size_t n);
+void good_words(uint8_t start, uint8_t *out, size_t words);
+
+#endif

@@ -1,0 +1,211 @@
+/* commands: asks a rack every request there is, changes what can be changed, and compares each answer with what the maker's
+ * paper says must come. Used by the test beside it. */
+#include "line.h"
+#include "truth.h"
+#include "words.h"
+
+#include <stdio.h>
+#include <string.h>
+
+#define TIMEOUT_MS 60
+#define AT 5                     /* the controller that is asked */
+#define FREE 30                  /* an address that none has */
+#define ONE_FIFTH 0x3E4CCCCDu
+
+static struct line line;
+static unsigned checks, wrong;
+
+static void check(int good, const char *what, const char *found)
+{
+    checks++;
+    if (good)
+        return;
+    wrong++;
+    (void)printf("commands: %s: %s\n", what, found);
+}
+
+static void check_answer(struct answer answer, enum ending ending, uint8_t refusal, uint8_t code, uint8_t reply, uint32_t value,
+                         const char *what)
+{
+    char found[96];
+    mfc_reply got = answer.reply;
+
+    (void)snprintf(found, sizeof found, "ending %d, refusal %u, code %u, reply %u, value %lu", (int)answer.ending, got.refusal,
+                   got.code, got.reply, (unsigned long)got.value);
+    check(answer.ending == ending && got.refusal == refusal && got.code == code && got.reply == reply && got.value == value,
+          what, found);
+}
+
+/* The answer that must come, with its value. */
+static void expect(uint8_t address, uint8_t request, uint32_t value, uint8_t reply, uint32_t answer, const char *what)
+{
+    check_answer(line_ask(&line, address, request, value), ANSWERED, 0, 0, reply, answer, what);
+}
+
+static void expect_done(uint8_t address, uint8_t request, uint32_t value, const char *what)
+{
+    expect(address, request, value, ACKNOWLEDGED, 0, what);
+}
+
+static void expect_error(uint8_t address, uint8_t request, uint32_t value, uint8_t code, const char *what)
+{
+    check_answer(line_ask(&line, address, request, value), REFUSED, 15, code, 0, 0, what);
+}
+
+static void expect_refusal(uint8_t address, uint8_t request, uint32_t value, uint8_t refusal, const char *what)
+{
+    check_answer(line_ask(&line, address, request, value), REFUSED, refusal, 0, 0, 0, what);
+}
+
+static void expect_silence(uint8_t address, uint8_t request, uint32_t value, const char *what)
+{
+    check_answer(line_ask(&line, address, request, value), SILENT, 0, 0, 0, 0, what);
+}
+
+/* A body that the library does not write, sent by hand. The answer must be an error's frame with `code`, or none for 0. */
+static void expect_code(const uint8_t *wire, size_t n, uint8_t code, const char *what)
+{
+    uint8_t refusal = 0;
+    size_t length = line_send(&line, wire, n) ? line_next(&line, &refusal) : 0;
+
+    if (code == 0)
+        check(length == 0 && refusal == 0, what, "an answer came");
+    else
+        check(length == 5 && line.frame[0] == wire[1] && line.frame[1] == wire[2] && line.frame[2] == code
+              && line.frame[3] == 0, what, "another answer, or none");
+}
+
+static void readings(void)
+{
+    expect(AT, RAW_FLOW, 0, RAW_FLOW_IS, true_raw_flow(AT), "raw flow");
+    expect(AT, RAW_CONDUCTIVITY, 0, RAW_CONDUCTIVITY_IS, true_raw_conductivity(AT), "raw conductivity");
+    expect(AT, TEMPERATURE, 0, TEMPERATURE_IS, true_temperature(AT), "temperature");
+    expect(AT, NUMBER_OF_CALIBRATIONS, 0, NUMBER_OF_CALIBRATIONS_IS, CALIBRATIONS, "number of calibrations");
+    expect(AT, VALIDITY, 0, VALIDITY_IS, 1, "validity of a place with a calibration");
+    expect(AT, VALIDITY, 2, VALIDITY_IS, 0, "validity of an empty place");
+    expect(AT, VALIDITY, 0x7E7D1113, VALIDITY_IS, 0, "validity of a place past the end");
+}
+
+static void setpoint_and_settings(void)
+{
+    expect(AT, GET_SETPOINT, 0, SETPOINT_IS, true_setpoint(AT), "setpoint at the start");
+    expect(AT, MEASURED_VALUE, 0, MEASURED_IS, true_measured(AT), "measured value at the start");
+    expect_done(AT, SET_SETPOINT, ONE_FIFTH, "set setpoint");
+    expect(AT, GET_SETPOINT, 0, SETPOINT_IS, ONE_FIFTH, "setpoint after it was set");
+    expect(AT, MEASURED_VALUE, 0, MEASURED_IS, ONE_FIFTH, "measured value follows the setpoint");
+    expect(AT + 1, GET_SETPOINT, 0, SETPOINT_IS, true_setpoint(AT + 1), "the neighbour's setpoint");
+    expect(AT, GET_GAIN, 0, GAIN_IS, TRUE_GAIN, "gain at the start");
+    expect_done(AT, SET_GAIN, ONE_FIFTH, "set gain");
+    expect(AT, GET_GAIN, 0, GAIN_IS, ONE_FIFTH, "gain after it was set");
+    expect(AT, GET_INIT_STEP, 0, INIT_STEP_IS, TRUE_INIT_STEP, "init step at the start");
+    expect_done(AT, SET_INIT_STEP, 0x7D7E1113, "set init step");
+    expect(AT, GET_INIT_STEP, 0, INIT_STEP_IS, 0x7D7E1113, "init step after it was set");
+}
+
+static void calibrations(void)
+{
+    expect(AT, GET_CALIBRATION, 0, CALIBRATION_IS, true_calibration(AT), "calibration at the start");
+    expect_done(AT, SET_CALIBRATION, true_calibration(AT), "set the calibration that is set");
+    expect(AT, GET_SETPOINT, 0, SETPOINT_IS, ONE_FIFTH, "setpoint stays with the calibration");
+    expect_done(AT, SET_CALIBRATION, 19, "set calibration");
+    expect(AT, GET_CALIBRATION, 0, CALIBRATION_IS, 19, "calibration after it was set");
+    expect(AT, FULL_SCALE, 0, FULL_SCALE_IS, true_full_scale(19), "full scale of the calibration");
+    expect(AT, GET_SETPOINT, 0, SETPOINT_IS, 0, "setpoint is 0 after another calibration");
+    expect_error(AT, SET_CALIBRATION, 17, 51, "set an empty calibration");
+    expect_done(AT, VOLATILE_CALIBRATION, 18, "volatile calibration");
+    expect(AT, GET_CALIBRATION, 0, CALIBRATION_IS, 18, "calibration after the volatile one");
+    expect_error(AT, VOLATILE_CALIBRATION, 0xFFFFFFFF, 51, "volatile calibration past the end");
+    expect(AT, GET_CALIBRATION, 0, CALIBRATION_IS, 18, "calibration after a refused one");
+}
+
+static void addresses(void)
+{
+    expect(AT, GET_ADDRESS, 0, ADDRESS_IS, AT, "address");
+    expect_done(AT, SET_ADDRESS, FREE, "set address, answered from the old one");
+    expect(FREE, GET_ADDRESS, 0, ADDRESS_IS, FREE, "address after it was set");
+    expect_silence(AT, GET_ADDRESS, 0, "nobody at the old address");
+    expect(FREE, RAW_FLOW, 0, RAW_FLOW_IS, true_raw_flow(AT), "the same controller at the new address");
+    expect_done(FREE, SET_ADDRESS, AT, "set address back");
+}
+
+static void baud_rates(void)
+{
+    static const uint32_t rates[] = { 9600, 19200, 38400, 57600, 115200 };
+
+    expect(AT, GET_BAUD, 0, BAUD_IS, TRUE_BAUD, "baud rate");
+    for (size_t i = 0; i < sizeof rates / sizeof rates[0]; i++) {
+        expect_done(AT, SET_BAUD, rates[i], "set baud rate");
+        check(line_speed(&line, rates[i]), "the line's rate", "not taken");
+        expect(AT, GET_BAUD, 0, BAUD_IS, rates[i], "baud rate after it was set");
+    }
+    check(line_speed(&line, 9600), "the line's rate", "not taken");
+    expect_silence(AT, GET_BAUD, 0, "nobody at another rate");
+    check(line_speed(&line, TRUE_BAUD), "the line's rate", "not taken");
+}
+
+static void texts(void)
+{
+    struct answer answer = line_ask(&line, AT, PRODUCT_TYPE, 0);
+    size_t n = sizeof TRUE_TYPE - 1;
+
+    check_answer(answer, ANSWERED, 0, 0, PRODUCT_TYPE_IS, 0, "product type");
+    check(answer.reply.text_length == n && memcmp(line.frame + answer.reply.text_start, TRUE_TYPE, n) == 0,
+          "product type's text", "another text");
+}
+
+static void broadcasts(void)
+{
+    expect_silence(255, SET_GAIN, ONE_FIFTH, "a gain for all is not answered");
+    for (uint8_t i = 0; i < RACK; i++)
+        expect(i, GET_GAIN, 0, GAIN_IS, ONE_FIFTH, "gain after it was set for all");
+}
+
+static void refused_before_sending(void)
+{
+    expect_refusal(AT, REQUESTS, 0, 11, "a request number over 20");
+    expect_refusal(AT, SET_ADDRESS, 255, 12, "address 255");
+    expect_refusal(AT, SET_BAUD, 14400, 12, "a baud rate that is not one of the five");
+    expect_refusal(AT, SET_SETPOINT, 0x7F800000, 13, "an infinite setpoint");
+    expect_refusal(255, SET_ADDRESS, 7, 10, "set address for all");
+}
+
+static void frames_by_hand(void)
+{
+    static const uint8_t reset[] = { 0x7E, 0x00, 0xD3, 0x00, 0x2C, 0x7E };
+    static const uint8_t averaged[] = { 0x7E, 0x00, 0x08, 0x02, 0x7D, 0x31, 0x64, 0x80, 0x7E };
+    static const uint8_t short_set[] = { 0x7E, 0x00, 0x45, 0x01, 0x01, 0xB8, 0x7E };
+    static const uint8_t odd_rate[] = { 0x7E, 0x00, 0x91, 0x04, 0x00, 0x00, 0x38, 0x40, 0xF2, 0x7E };
+    static const uint8_t not_a_number[] = { 0x7E, 0x00, 0x00, 0x05, 0x01, 0x7F, 0xC0, 0x00, 0x00, 0xBA, 0x7E };
+    static const uint8_t bad_sum[] = { 0x7E, 0x00, 0x45, 0x00, 0xBB, 0x7E };
+    static const uint8_t to_all[] = { 0x7E, 0xFF, 0xD3, 0x00, 0x2D, 0x7E };
+
+    expect_code(reset, sizeof reset, 2, "a command that is not known");
+    expect_code(averaged, sizeof averaged, 2, "a subcommand that is not known");
+    expect_code(short_set, sizeof short_set, 1, "a wrong data length");
+    expect_code(odd_rate, sizeof odd_rate, 4, "a baud rate out of range");
+    expect_code(not_a_number, sizeof not_a_number, 4, "a setpoint that is not a number");
+    expect_code(bad_sum, sizeof bad_sum, 0, "a wrong checksum is not answered");
+    expect_code(to_all, sizeof to_all, 0, "an unknown command for all is not answered");
+}
+
+int main(int argc, char **argv)
+{
+    const char *fault = argc == 2 ? line_open(&line, argv[1], TIMEOUT_MS) : "give the rack's terminal as the one argument";
+
+    if (fault != NULL) {
+        (void)fprintf(stderr, "commands: %s\n", fault);
+        return 3;
+    }
+    readings();
+    setpoint_and_settings();
+    calibrations();
+    addresses();
+    baud_rates();
+    texts();
+    broadcasts();
+    refused_before_sending();
+    frames_by_hand();
+    line_close(&line);
+    (void)printf("commands: %u checks, %u wrong\n", checks, wrong);
+    return wrong != 0;
+}

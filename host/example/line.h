@@ -1,0 +1,59 @@
+/* line.h: a serial line with one master (this program), and one question at a time on it. */
+#ifndef LINE_H
+#define LINE_H
+
+#include "mfc.h"
+
+#include <stddef.h>
+#include <stdint.h>
+
+/* The line and all that is held for it: no heap, and well under 64 KiB. */
+struct line {
+    int fd;
+    int timeout_ms;              /* the line counts as silent after so long without a byte */
+    int restless;                /* the last question ended with the line not known to be quiet */
+    unsigned long heard;         /* bytes that arrived */
+    unsigned long stray;         /* those of them thrown away because no question was open */
+    uint8_t record[264];         /* the receiver */
+    uint8_t frame[260];          /* the last frame's body */
+    uint8_t bytes[4096];         /* what arrived: from `start` to `end` is not yet taken */
+    size_t start, end;
+};
+
+/* How one question ended. */
+enum ending {
+    ANSWERED,                    /* `reply` is the answer */
+    REFUSED,                     /* `reply.refusal` says why, and with 15 `reply.code` */
+    SILENT,                      /* nothing arrived */
+    NOISE,                       /* bytes arrived, but no start of a frame among them */
+    LINE_GONE                    /* hang-up, unplugged, or an error in errno */
+};
+
+struct answer {
+    enum ending ending;
+    mfc_reply reply;
+};
+
+/* Opens `device` raw at 115,200 8N1 with a fresh receiver of replies. Returns NULL, or what to tell the user. */
+const char *line_open(struct line *line, const char *device, int timeout_ms);
+
+/* Changes the baud rate to one of the five. Returns 0 if the device does not take it. */
+int line_speed(struct line *line, uint32_t baud);
+
+/* Asks one controller one question and waits for its answer.
+   A frame has no sequence number. An answer that comes late is told from the next one by address and command; if a question is
+   repeated, ask another in between, as a polling round does.
+   On a two-wire line that echoes, the echo of most requests is refused and passed over. That of get gain, raw flow, number of
+   calibrations, product type and set address 0 has the bytes of an error answer (code 1): use an adapter that does not echo. */
+struct answer line_ask(struct line *line, uint8_t address, uint8_t request, uint32_t value);
+
+/* Sends bytes as they are, after what line_ask does before a question. Returns 0 if the line is gone. */
+int line_send(struct line *line, const uint8_t *bytes, size_t n);
+
+/* Waits for the next item, taking bytes as needed. `*refusal` is 0 with a frame, whose length is returned; the refusal's
+   number with length 0; and 0 with length 0 where the line fell silent or is gone. */
+size_t line_next(struct line *line, uint8_t *refusal);
+
+void line_close(struct line *line);
+
+#endif
