@@ -164,7 +164,11 @@ impl Case for Round {
 #[derive(Clone, Debug)]
 pub enum Step {
     /// One piece; where `again` is set, what was not taken is handed in again until nothing is left.
-    Feed { piece: Hex, room: usize, again: bool },
+    Feed {
+        piece: Hex,
+        room: usize,
+        again: bool,
+    },
     Mark,
 }
 
