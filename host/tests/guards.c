@@ -286,7 +286,9 @@ static mfc_fed feed(uint8_t *record, const uint8_t *contents, size_t n, uint8_t 
         fail("more than was lent");
     }
     memcpy(record, kept.bytes, RECORD);
-    memcpy(copy, frame.bytes, fed.frame_length);
+    if (fed.frame_length > 0) {
+        memcpy(copy, frame.bytes, fed.frame_length);
+    }
     fold(fed.refusal);
     fold(fed.frame_length);
     fold(fed.taken);
