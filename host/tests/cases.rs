@@ -3,7 +3,7 @@
 use crate::harness::*;
 use crate::interface::*;
 use crate::library::Library;
-use crate::reference::{answer_of, items, Event, Heard, Item, Kind, RECORD, STORE};
+use crate::reference::{answer_of, items, Event, Heard, Item, Kind, Reference, RECORD, STORE};
 use crate::{call, case};
 
 fn bytes(hex: &Hex, salt: u32) -> Lent<u8> {
@@ -143,7 +143,7 @@ impl Case for Round {
         for (at, ask) in self.asks.iter().enumerate() {
             let start = end + ask.skip;
             let (address, request, value) = (ask.address, ask.request, ask.value);
-            let wanted = crate::reference::Reference.write_request_at(expected.slice(), start, address, request, value);
+            let wanted = Reference.write_request_at(expected.slice(), start, address, request, value);
             let got = library.write_request_at(found.slice(), start, address, request, value);
             if wanted != got {
                 return Some(format!("answer of call {at} at {start}: expected {wanted:?}, found {got:?}"));
@@ -164,7 +164,11 @@ impl Case for Round {
 #[derive(Clone, Debug)]
 pub enum Step {
     /// One piece; where `again` is set, what was not taken is handed in again until nothing is left.
-    Feed { piece: Hex, room: usize, again: bool },
+    Feed {
+        piece: Hex,
+        room: usize,
+        again: bool,
+    },
     Mark,
 }
 

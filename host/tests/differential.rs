@@ -268,9 +268,13 @@ fn short_streams_section(section: &mut Section) {
     }
 }
 
+/// A piece with room enough, each rest handed in again.
+fn feed(piece: &[u8]) -> Step {
+    Step::Feed { piece: Hex(piece.to_vec()), room: 260, again: true }
+}
+
 /// A stream that begins inside a stretch, cut into pieces of a size.
 fn pieces(stream: &[Option<u8>], widest: usize) -> Vec<Step> {
-    let feed = |piece: &[u8]| Step::Feed { piece: Hex(piece.to_vec()), room: 260, again: true };
     let mut steps = vec![feed(&[DELIMITER])];
     for (at, part) in stream.split(Option::is_none).enumerate() {
         if at > 0 {
@@ -283,10 +287,27 @@ fn pieces(stream: &[Option<u8>], widest: usize) -> Vec<Step> {
 }
 
 fn series_section(section: &mut Section) {
-    for _ in 0..section.times(60_000) {
+    for _ in 0..section.times(40_000) {
         let salt = salt(section);
         let series = generate::series(&mut section.random, salt);
         section.check(series);
+    }
+}
+
+/// Short streams cut at every two places, with a call of short room at the first cut.
+fn cuts_section(section: &mut Section) {
+    for _ in 0..section.times(400) {
+        let random = &mut section.random;
+        let kind = random.below(2) as u8;
+        let mut stream = generate::stream(random, kind_of(kind), 2);
+        stream.truncate(40);
+        for first in 0..=stream.len() {
+            for second in first..=stream.len() {
+                let short = Step::Feed { piece: Hex(stream[first..].to_vec()), room: 259, again: false };
+                let steps = vec![feed(&stream[..first]), short, feed(&stream[first..second]), feed(&stream[second..])];
+                section.check(Series { kind, steps, salt: first as u32 });
+            }
+        }
     }
 }
 
@@ -296,9 +317,8 @@ fn long_pieces_section(section: &mut Section) {
         let random = &mut section.random;
         let kind = random.below(2) as u8;
         let stream = generate::stream(random, kind_of(kind), 40);
-        let steps = vec![Step::Feed { piece: Hex(stream), room: 260, again: true }];
         let salt = salt(section);
-        section.check(Series { kind, steps, salt });
+        section.check(Series { kind, steps: vec![feed(&stream)], salt });
     }
 }
 
@@ -314,7 +334,6 @@ fn largest_section(section: &mut Section) {
             stream.insert(at, random.pick(&generate::STUFFING_BYTES));
         }
         let cut = random.below(stream.len());
-        let feed = |piece: &[u8]| Step::Feed { piece: Hex(piece.to_vec()), room: 260, again: true };
         let steps = vec![feed(&stream[..cut]), feed(&stream[cut..])];
         let salt = salt(section);
         section.check(Series { kind, steps, salt });
@@ -426,7 +445,11 @@ fn replies_round_trip(section: &mut Section) {
                 }
                 _ => plain,
             };
-            section.expect("a written reply is read back", expected, library.read_reply(address, request, value, &body));
+            section.expect(
+                "a written reply is read back",
+                expected,
+                library.read_reply(address, request, value, &body),
+            );
         }
     }
 }
@@ -626,6 +649,7 @@ fn main() {
     report.section("a fresh receiver", fresh_section);
     report.section("receiver: every short stream", short_streams_section);
     report.section("receiver: series of calls", series_section);
+    report.section("receiver: every cut", cuts_section);
     report.section("receiver: long pieces", long_pieces_section);
     report.section("receiver: bodies of 256 to 263 bytes", largest_section);
     report.section("receiver: records", records_section);

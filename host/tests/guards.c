@@ -286,7 +286,9 @@ static mfc_fed feed(uint8_t *record, const uint8_t *contents, size_t n, uint8_t 
         fail("more than was lent");
     }
     memcpy(record, kept.bytes, RECORD);
-    memcpy(copy, frame.bytes, fed.frame_length);
+    if (fed.frame_length > 0) {
+        memcpy(copy, frame.bytes, fed.frame_length);
+    }
     fold(fed.refusal);
     fold(fed.frame_length);
     fold(fed.taken);
@@ -398,14 +400,15 @@ static void numbers(void)
 
 static void writers(uint8_t *frame, size_t *length)
 {
-    uint8_t request = (uint8_t)below(21);
+    /* A product type's text makes the largest frames, so it is asked for more often than the rest. */
+    uint8_t request = (uint8_t)(below(4) ? below(21) : 20);
     mfc_written needed = write_request(wire_byte(), request, 1, NULL, 64);
     write_request(wire_byte(), request, 1, NULL, needed.length > 0 ? needed.length - 1 : 0);
     write_request_at(below(40), below(44));
     write_request_at(30, 30 - below(20));
     static const uint8_t replies[] = {1, 0, 2, 3, 0, 4, 0, 5, 6, 7, 8, 9, 10, 11, 0, 0, 12, 0, 13, 0, 14};
     uint8_t address = (uint8_t)below(255);
-    size_t text_length = below(4) ? below(12) : below(300);
+    size_t text_length = below(4) ? below(12) : below(2) ? below(300) : 252 + below(5);
     mfc_written reply = write_reply(address, request, replies[request], text_length, frame, 600);
     if (reply.refusal == 0) {
         write_reply(address, request, replies[request], text_length, NULL, reply.length);

@@ -77,7 +77,7 @@ impl Element for u8 {
 
 impl Element for u16 {
     fn from_pattern(byte: u8) -> u16 {
-        u16::from(byte) * 257 ^ 0x5A00
+        (u16::from(byte) * 257) ^ 0x5A00
     }
 }
 
@@ -431,12 +431,8 @@ impl Report {
         print!("{name:<44}");
         let _ = std::io::stdout().flush();
         let began = Instant::now();
-        let mut section = Section {
-            random: Random::new(self.seed, name),
-            percent: self.percent,
-            cases: 0,
-            failure: None,
-        };
+        let mut section =
+            Section { random: Random::new(self.seed, name), percent: self.percent, cases: 0, failure: None };
         body(&mut section);
         let seconds = began.elapsed().as_secs_f64();
         println!("{:>12} cases {seconds:>7.2} s", thousands(section.cases));
@@ -488,7 +484,8 @@ impl Section {
         }
         self.cases += 1;
         if expected != found {
-            self.failure = Some(format!("  case:        {what}\n  expected:    {expected:?}\n  found:       {found:?}"));
+            self.failure =
+                Some(format!("  case:        {what}\n  expected:    {expected:?}\n  found:       {found:?}"));
         }
     }
 }

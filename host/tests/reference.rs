@@ -364,9 +364,8 @@ pub const DEVICE_ERROR: u8 = 15;
 const BROADCAST: u8 = 255;
 
 /// What each kind of reply carries, by its number.
-pub const REPLIES: [Field; 16] = [
-    Nothing, Float, Float, Float, Float, U16, U16, Float, U32, Validity, Float, U32, Address, Baud, Text, ErrorCode,
-];
+pub const REPLIES: [Field; 16] =
+    [Nothing, Float, Float, Float, Float, U16, U16, Float, U32, Validity, Float, U32, Address, Baud, Text, ErrorCode];
 
 pub const BAUD_RATES: [u32; 5] = [9600, 19200, 38400, 57600, 115200];
 
