@@ -1,0 +1,41 @@
+-- A request's own refusals: each answer of the definition, from the tests that lead to it. Assumes nothing.
+use mathlib.Core.Path.{_≡_, refl, sym}
+use mathlib.Core.Bool.{Bool, true, false}
+use Prim.Native.Nat.{ℕ}
+use mathlib.Core.List.{[], _∷_}
+use Rattle.refusal.specs.Refusals.{number, served, refused, inOrder}
+use Rattle.sfc6.specs.declared.Request.{Request}
+use Rattle.sfc6.specs.declared.Row.{Row}
+use Rattle.sfc6.specs.Commands.{row, outOfRange, badFloat, addressToAll}
+use Rattle.sfc6.specs.Requests.{checkRequest}
+use Rattle.sfc6.proofs.Order.{never}
+
+module _ (address : ℕ) (request : Request) (r : Row) (is : r ≡ row request) {x : Bool} (range : x ≡ outOfRange (r .value)) where
+  pub refused-12 : x ≡ true → refused (number 12) ≡ checkRequest address request
+  unfolding checkRequest
+  refused-12 h = rw (← is, ← range, h)
+
+  module _ (in-range : x ≡ false) {y : Bool} (float : y ≡ badFloat (r .value)) where
+    pub refused-13 : y ≡ true → refused (number 13) ≡ checkRequest address request
+    unfolding checkRequest
+    refused-13 h = rw (← is, ← range, in-range, ← float, h)
+
+    module _ (good-float : y ≡ false) {z : Bool} (all : z ≡ addressToAll address (r .value)) where
+      pub refused-10 : z ≡ true → refused (number 10) ≡ checkRequest address request
+      unfolding checkRequest
+      refused-10 h = rw (← is, ← range, in-range, ← float, good-float, ← all, h)
+
+      pub passed : z ≡ false → served (address, request) ≡ checkRequest address request
+      unfolding checkRequest
+      passed h = rw (← is, ← range, in-range, ← float, good-float, ← all, h)
+
+-- a request that passes carries no bad float
+pub passed-float : (address : ℕ) (request : Request) {a : ℕ × Request} → checkRequest address request ≡ served a → badFloat (row request .value) ≡ false
+unfolding checkRequest
+passed-float address request {a} h = go (outOfRange (row request .value)) (badFloat (row request .value)) h
+  where
+    go : (x y : Bool) → inOrder ((x, number 12) ∷ (y, number 13) ∷ (addressToAll address (row request .value), number 10) ∷ []) (address, request) ≡ served a
+        → y ≡ false
+    go true y h = never (sym h)
+    go false true h = never (sym h)
+    go false false h = refl

@@ -1,0 +1,76 @@
+-- Writing a request: each answer of the definition, from the tests that lead to it. Assumes nothing.
+use mathlib.Core.Path.{_≡_, refl, sym, ap, _∙_}
+use mathlib.Core.Bool.{Bool, cond}
+use mathlib.Core.List.{List, [], _∷_, _++_, append-nil}
+use Prim.Native.Nat.{ℕ, _+_, _-_, _≤_, _<_}
+use native.Mathlib.Omega.{arith}
+use borrow.Author.Tests.{lt-ltb, le-ltb}
+use lib.Dec.{ltb}
+use lib.ListN.{length, take, drop, length-drop, drop-of-length-le}
+use lib.Seq.{take-all, take-length, drop-length}
+use Rattle.refusal.specs.declared.Refusal.{Refusal}
+use Rattle.refusal.specs.Refusals.{Numbered, Answered, number, served, refused, paper, inOrder}
+use Rattle.refusal.specs.Room.{overlay}
+use Rattle.refusal.proofs.Room.{take-overlay}
+use Rattle.shdlc.specs.declared.Checked.{Checked}
+use Rattle.shdlc.specs.declared.Checked.the-variants.{Good, Refused}
+use Rattle.shdlc.specs.Frame.{frameOf, writeFrame}
+use Rattle.sfc6.specs.declared.Request.{Request}
+use Rattle.sfc6.specs.declared.Row.{Row}
+use Rattle.sfc6.specs.Commands.{row}
+use Rattle.sfc6.specs.Requests.{requestChecks, checkRequest, dataOf, bodyOf, frameToWrite, lay, writeRequest}
+use Rattle.sfc6.specs.Rounds.{appendRequest}
+use Rattle.sfc6.specs.Paper.{paperPassed}
+use Rattle.sfc6.proofs.Order.{first-refuses, then-more}
+
+-- the test of the data's length
+abbrev pub five : Row → List (Bool × Numbered)
+five r = (ltb 255 (length (dataOf r)), number 5) ∷ []
+
+module _ (address : ℕ) (request : Request) (room : List ℕ) {c : Checked} (is : paperPassed (address, request) c ≡ checkRequest address request) where
+  pub write-refused : {why : Refusal} → c ≡ Refused why → (refused (paper why), room) ≡ writeRequest address request room
+  unfolding writeRequest frameToWrite checkRequest
+  write-refused e =
+      sym (ap (λ (a : Answered (List ℕ)). lay a room) (first-refuses (address, request) (frameOf (bodyOf address (row request))) (five (row request)) (requestChecks address request) (sym is ∙ ap (paperPassed (address, request)) e)))
+
+  module _ (good : c ≡ Good) {r : Row} (at-row : r ≡ row request) where
+    -- only 5 and 1 are left
+    rest : frameToWrite address request ≡ inOrder (five r) (frameOf (bodyOf address r))
+    unfolding frameToWrite checkRequest
+    rest =
+        then-more (address, request) (frameOf (bodyOf address (row request))) (five (row request)) (requestChecks address request)
+        (sym is ∙ ap (paperPassed (address, request)) good)
+        ∙ rw at-row
+
+    module _ {size : ℕ} (counted : size ≡ length (dataOf r)) where
+      pub write-long : 255 < size → (refused (number 5), room) ≡ writeRequest address request room
+      unfolding writeRequest
+      write-long h = rw (rest, ← counted, lt-ltb _ _ h)
+
+      pub write-frame : size ≤ 255 → (end : ℕ) (zeros w : List ℕ) {o : Answered ℕ × List ℕ}
+          → (end ≡ length (bodyOf address r)) × (w ≡ overlay zeros 0 (bodyOf address r))
+          → o ≡ writeFrame (take end w) room → o ≡ writeRequest address request room
+      unfolding writeRequest
+      write-frame h end zeros w f g = rw (rest, ← counted, le-ltb _ _ h) (g ∙ rw (f .0, f .1, take-overlay))
+
+-- a frame into the room left
+module _ (buffer : List ℕ) (start end : ℕ) where
+  -- where the room starts: at the place asked for, or at the end where that is past it
+  abbrev pub Starts : Type 0
+  Starts = (end ≤ length buffer) × (take end buffer ≡ take start buffer) × (drop end buffer ≡ drop start buffer)
+
+  pub starts-at : start < length buffer → end ≡ start → Starts
+  starts-at h e = rw e (omega arith, refl, refl)
+
+  pub starts-past : length buffer ≤ start → end ≡ length buffer → Starts
+  starts-past h e = rw e (omega arith, take-length buffer ∙ sym (take-all start buffer h), drop-length buffer ∙ sym (drop-of-length-le buffer h))
+
+  pub appended : (address : ℕ) (request : Request) {r : Answered ℕ} {w : List ℕ} → Starts
+      → (r, w) ≡ writeRequest address request (take (length buffer - end) (drop end buffer))
+      → (r, take end buffer ++ (w ++ drop (length buffer - end) (drop end buffer))) ≡ appendRequest buffer start address request
+  unfolding appendRequest
+  appended address request {w = w} s e =
+      let l = length-drop end buffer in
+      let f = rw (take-all (length buffer - end) (drop end buffer) (omega arith), s .2) at e in
+      rw (drop-of-length-le (drop end buffer) {i = length buffer - end} (omega arith), append-nil w, s .1)
+      (ap (λ (o : Answered ℕ × List ℕ). (o .0, take start buffer ++ o .1)) f)

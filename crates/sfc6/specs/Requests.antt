@@ -1,0 +1,65 @@
+-- A request: its own refusals, its bytes on the wire, and its writer. 01, Commands of the SFC6 family and Refusal numbers.
+use Prim.Native.Nat.{ℕ}
+use mathlib.Core.Bool.{Bool}
+use mathlib.Core.List.{List, [], _∷_, _++_}
+use lib.Dec.{ltb}
+use lib.ListN.{length}
+use lib.Ieee.{binary32, toBits}
+use Rattle.refusal.specs.Refusals.{Numbered, number, Answered, served, refused, inOrder}
+use Rattle.refusal.specs.Room.{emit}
+use Rattle.shdlc.specs.Frame.{frameOf}
+use Rattle.payload.specs.Field.{bigEndian}
+use Rattle.sfc6.specs.declared.Request.{Request}
+use Rattle.sfc6.specs.declared.Subcommand.{Subcommand}
+use Rattle.sfc6.specs.declared.Subcommand.the-variants as sub
+use Rattle.sfc6.specs.declared.Row.{Row}
+use Rattle.sfc6.specs.declared.Value.{Value}
+use Rattle.sfc6.specs.declared.Value.the-variants.{Nothing, Float, U32, Address, Baud}
+use Rattle.sfc6.specs.Commands.{row, outOfRange, badFloat, addressToAll}
+
+-- "Order": a request's own refusals, 12, 13, 10, with which both writing a request and both reply jobs start
+abbrev pub requestChecks : ℕ → Request → List (Bool × Numbered)
+requestChecks address request =
+    (outOfRange (row request .value), number 12)
+    ∷ (badFloat (row request .value), number 13)
+    ∷ (addressToAll address (row request .value), number 10)
+    ∷ []
+
+unfoldable pub checkRequest : ℕ → Request → Answered (ℕ × Request)
+checkRequest address request = inOrder (requestChecks address request) (address, request)
+
+-- "Sub is the first data byte."
+abbrev pub subBytes : Subcommand → List ℕ
+subBytes sub.Missing = []
+subBytes (sub.Byte s) = s ∷ []
+
+-- "Numbers are big-endian." A float goes by its bits.
+abbrev pub valueBytes : Value → List ℕ
+valueBytes Nothing = []
+valueBytes (Float x) = bigEndian 4 (toBits binary32 x)
+valueBytes (U32 n) = bigEndian 4 n
+valueBytes (Address a) = bigEndian 1 a
+valueBytes (Baud rate) = bigEndian 4 rate
+
+-- the data of a request, by its row
+unfoldable pub dataOf : Row → List ℕ
+dataOf r = subBytes (r .sub) ++ valueBytes (r .value)
+
+-- 01, Frames on the wire: "address, command, L, L data bytes", the checksum aside
+unfoldable pub bodyOf : ℕ → Row → List ℕ
+bodyOf address r = address ∷ r .command ∷ length (dataOf r) ∷ dataOf r
+
+-- "Order": "writing one 12, 13, 10, 5, 1". "Number 5 is tested in both writers, for data over 255 bytes."
+unfoldable pub frameToWrite : ℕ → Request → Answered (List ℕ)
+frameToWrite address request =
+    inOrder (requestChecks address request ++ ((ltb 255 (length (dataOf (row request))), number 5) ∷ []))
+    (frameOf (bodyOf address (row request)))
+
+-- number 1 comes last: a frame goes to the start of the lent room, or does not fit
+abbrev pub lay : Answered (List ℕ) → List ℕ → Answered ℕ × List ℕ
+lay (served frame) room = emit frame room
+lay (refused n) room = (refused n, room)
+
+-- what the writer of a request answers, and what the lent room then holds
+unfoldable pub writeRequest : ℕ → Request → List ℕ → Answered ℕ × List ℕ
+writeRequest address request room = lay (frameToWrite address request) room

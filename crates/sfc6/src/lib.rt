@@ -1,0 +1,560 @@
+// The typed commands of the SFC6 family: the table, and requests written and read.
+use payload::Field;
+use payload::Placed;
+use payload::Width;
+use refusal::Refusal;
+use shdlc::Checked;
+use shdlc::Kind;
+use shdlc::Written;
+ghost use mathlib.Core.Path.{_≡_};
+ghost use Prim.Native.Nat.{_+_, _^_, _≤_, _<_, min};
+ghost use mathlib.Core.Bool.{cond};
+ghost use lib.ListN.{length, drop};
+ghost use lib.Ieee.{binary32, toBits, ofBits};
+ghost use Rattle.sfc6.specs.Commands.{withSub, withoutSub, row, table, requestAt, bauds, member, finite, outOfRange, badFloat, addressToAll};
+ghost use Rattle.sfc6.specs.Requests.{checkRequest, subBytes, valueBytes, dataOf, bodyOf, writeRequest};
+ghost use Rattle.sfc6.specs.Rounds.{appendRequest, pollRound};
+ghost use Rattle.sfc6.specs.Reading.{startsWith, named, fitting, first, carried, typed, readRequest};
+ghost use Rattle.refusal.specs.Room.{overlay};
+ghost use Rattle.shdlc.specs.Paper.{paperWritten};
+ghost use Rattle.payload.specs.Field.{big, bytesIn, bigEndian};
+ghost use Rattle.sfc6.specs.Paper.{paperPassed, paperRound, paperFound, paperTyped, paperRead};
+
+// A request, with the value that it carries.
+pub enum Request {
+    GetSetpoint,
+    SetSetpoint(f32),
+    MeasuredValue,
+    GetGain,
+    SetGain(f32),
+    GetInitStep,
+    SetInitStep(f32),
+    RawFlow,
+    RawConductivity,
+    Temperature,
+    NumberOfCalibrations,
+    Validity(u32),
+    FullScale,
+    GetCalibration,
+    SetCalibration(u32),
+    VolatileCalibration(u32),
+    GetAddress,
+    SetAddress(u8),
+    GetBaud,
+    SetBaud(u32),
+    ProductType,
+}
+
+// The subcommand of a row.
+pub enum Subcommand {
+    Missing,
+    Byte(u8),
+}
+
+// What a request carries after its subcommand.
+pub enum Value {
+    Nothing,
+    Float(f32),
+    U32(u32),
+    Address(u8),
+    Baud(u32),
+}
+
+// What the reply carries.
+pub enum Answer {
+    Nothing,
+    Float,
+    U16,
+    U32,
+    Validity,
+    Address,
+    Baud,
+    Text,
+}
+
+// A row of the table of commands.
+pub struct Row {
+    pub command: u8,
+    pub sub: Subcommand,
+    pub value: Value,
+    pub answer: Answer,
+}
+
+// What a polling round answers: the frames that it laid, the place after them, and whether one was refused.
+pub struct Round {
+    pub frames: usize,
+    pub end: usize,
+    pub outcome: Checked,
+}
+
+// Where a row stands in the table.
+enum Found {
+    At(usize),
+    Nothing,
+}
+
+// What reading the data of a request answers.
+enum Typed {
+    Known(Request),
+    Refused(Refusal),
+}
+
+// What reading a request answers: its address and the request, or why not.
+pub enum ReadRequest {
+    Done(u8, Request),
+    Refused(Refusal),
+}
+
+// The bits of a float; of a NaN those of the quiet one.
+pub fn bits_of(x: f32) -> u32
+    ensures { λ r. ⌜ r ≡ toBits binary32 x ⌝ }
+{
+    if x != x {
+        return 0x7FC0_0000;
+    }
+    f32::to_bits(x)
+}
+
+// The float of its bits; of the bits of any NaN, a NaN.
+pub fn float_of(bits: u32) -> f32
+    ensures { λ r. ⌜ r ≡ ofBits binary32 bits ⌝ }
+{
+    if 0x7F80_0000 < bits % 0x8000_0000 {
+        return 0.0 / 0.0;
+    }
+    f32::from_bits(bits)
+}
+
+// Whether the exponent's bits are not all ones.
+pub fn is_finite(bits: u32) -> bool
+    ensures { λ r. ⌜ r ≡ finite bits ⌝ }
+{
+    bits / 0x80_0000 % 256 != 255
+}
+
+// The rates that the line can run at.
+pub const BAUDS: [u32; 5] = [9600, 19200, 38400, 57600, 115200];
+
+// Whether the rate stands in the table.
+fn contains(rates: &[u32], rate: u32) -> bool
+    ensures { λ r. ⌜ r ≡ member rate (now (rates .entry)) ⌝ }
+{
+    let mut i: usize = 0;
+    while i < rates.len() {
+        if rates[i] == rate {
+            return true;
+        }
+        i += 1;
+    }
+    false
+}
+
+// Whether the rate is one of the five.
+pub fn is_baud(rate: u32) -> bool
+    ensures { λ r. ⌜ r ≡ member rate bauds ⌝ }
+{
+    contains(&BAUDS, rate)
+}
+
+// A row with a subcommand, and one without.
+fn with_sub(command: u8, sub: u8, value: Value, answer: Answer) -> Row
+    ensures { λ r. ⌜ r ≡ withSub command sub value answer ⌝ }
+{
+    Row {
+        command: command,
+        sub: Subcommand::Byte(sub),
+        value: value,
+        answer: answer,
+    }
+}
+
+fn without_sub(command: u8, value: Value, answer: Answer) -> Row
+    ensures { λ r. ⌜ r ≡ withoutSub command value answer ⌝ }
+{
+    Row {
+        command: command,
+        sub: Subcommand::Missing,
+        value: value,
+        answer: answer,
+    }
+}
+
+// The table of commands.
+pub fn row_of(request: Request) -> Row
+    ensures { λ r. ⌜ r ≡ row request ⌝ }
+{
+    match request {
+        Request::GetSetpoint => with_sub(0x00, 0x01, Value::Nothing, Answer::Float),
+        Request::SetSetpoint(x) => with_sub(0x00, 0x01, Value::Float(x), Answer::Nothing),
+        Request::MeasuredValue => with_sub(0x08, 0x01, Value::Nothing, Answer::Float),
+        Request::GetGain => with_sub(0x22, 0x00, Value::Nothing, Answer::Float),
+        Request::SetGain(x) => with_sub(0x22, 0x00, Value::Float(x), Answer::Nothing),
+        Request::GetInitStep => with_sub(0x22, 0x03, Value::Nothing, Answer::Float),
+        Request::SetInitStep(x) => with_sub(0x22, 0x03, Value::Float(x), Answer::Nothing),
+        Request::RawFlow => with_sub(0x30, 0x00, Value::Nothing, Answer::U16),
+        Request::RawConductivity => with_sub(0x30, 0x02, Value::Nothing, Answer::U16),
+        Request::Temperature => with_sub(0x30, 0x10, Value::Nothing, Answer::Float),
+        Request::NumberOfCalibrations => with_sub(0x40, 0x00, Value::Nothing, Answer::U32),
+        Request::Validity(index) => with_sub(0x40, 0x10, Value::U32(index), Answer::Validity),
+        Request::FullScale => with_sub(0x44, 0x14, Value::Nothing, Answer::Float),
+        Request::GetCalibration => without_sub(0x45, Value::Nothing, Answer::U32),
+        Request::SetCalibration(n) => without_sub(0x45, Value::U32(n), Answer::Nothing),
+        Request::VolatileCalibration(n) => without_sub(0x46, Value::U32(n), Answer::Nothing),
+        Request::GetAddress => without_sub(0x90, Value::Nothing, Answer::Address),
+        Request::SetAddress(a) => without_sub(0x90, Value::Address(a), Answer::Nothing),
+        Request::GetBaud => without_sub(0x91, Value::Nothing, Answer::Baud),
+        Request::SetBaud(rate) => without_sub(0x91, Value::Baud(rate), Answer::Nothing),
+        Request::ProductType => with_sub(0xD0, 0x00, Value::Nothing, Answer::Text),
+    }
+}
+
+// A number as an address: 255, which is out of range, where it is no byte.
+fn address_of(n: u32) -> u8
+    ensures { λ r. ⌜ r ≡ min n 255 ⌝ }
+{
+    if n < 255 { n as u8 } else { 255 }
+}
+
+// The request of its number in the table's order, 0 to 20, and of the number that it carries; 20 and above are the last.
+pub fn request_of(place: usize, n: u32) -> Request
+    ensures { λ r. ⌜ r ≡ requestAt place n ⌝ }
+{
+    match place {
+        0 => Request::GetSetpoint,
+        1 => Request::SetSetpoint(float_of(n)),
+        2 => Request::MeasuredValue,
+        3 => Request::GetGain,
+        4 => Request::SetGain(float_of(n)),
+        5 => Request::GetInitStep,
+        6 => Request::SetInitStep(float_of(n)),
+        7 => Request::RawFlow,
+        8 => Request::RawConductivity,
+        9 => Request::Temperature,
+        10 => Request::NumberOfCalibrations,
+        11 => Request::Validity(n),
+        12 => Request::FullScale,
+        13 => Request::GetCalibration,
+        14 => Request::SetCalibration(n),
+        15 => Request::VolatileCalibration(n),
+        16 => Request::GetAddress,
+        17 => Request::SetAddress(address_of(n)),
+        18 => Request::GetBaud,
+        19 => Request::SetBaud(n),
+        _ => Request::ProductType,
+    }
+}
+
+// 12: an address above 254, or a baud that is none of the five.
+fn out_of_range(value: Value) -> bool
+    ensures { λ r. ⌜ r ≡ outOfRange value ⌝ }
+{
+    match value {
+        Value::Nothing => false,
+        Value::Float(_) => false,
+        Value::U32(_) => false,
+        Value::Address(a) => a > 254,
+        Value::Baud(rate) => !is_baud(rate),
+    }
+}
+
+// 13: a float that is not finite.
+fn bad_float(value: Value) -> bool
+    ensures { λ r. ⌜ r ≡ badFloat value ⌝ }
+{
+    match value {
+        Value::Nothing => false,
+        Value::Float(x) => !is_finite(bits_of(x)),
+        Value::U32(_) => false,
+        Value::Address(_) => false,
+        Value::Baud(_) => false,
+    }
+}
+
+// 10: set slave address sent to address 255.
+fn address_to_all(address: u8, value: Value) -> bool
+    ensures { λ r. ⌜ r ≡ addressToAll address value ⌝ }
+{
+    match value {
+        Value::Nothing => false,
+        Value::Float(_) => false,
+        Value::U32(_) => false,
+        Value::Address(_) => address == 255,
+        Value::Baud(_) => false,
+    }
+}
+
+// The request's own refusals, in their order: 12, 13, 10.
+pub fn check_request(address: u8, request: Request) -> Checked
+    ensures { λ r. ⌜ paperPassed (address, request) r ≡ checkRequest address request ⌝ }
+{
+    let row = row_of(request);
+    let value = row.value;
+    if out_of_range(value) {
+        return Checked::Refused(Refusal::OutOfRange);
+    }
+    if bad_float(value) {
+        return Checked::Refused(Refusal::BadFloat);
+    }
+    if address_to_all(address, value) {
+        return Checked::Refused(Refusal::AddressBroadcast);
+    }
+    Checked::Good
+}
+
+// Writes a number in so many bytes at a place, and answers the place after it.
+fn put_number(out: &mut [u8], place: usize, n: u32, width: Width) -> usize
+    requires { ⌜ (n < 256 ^ bytesIn width) × (place + bytesIn width ≤ length (now out)) ⌝ }
+    ensures { λ r. ⌜ (r ≡ place + bytesIn width) × (now (out .exit) ≡ overlay (now (out .entry)) place (bigEndian (bytesIn width) n)) ⌝ }
+{
+    match payload::put(out, place, n, width) {
+        Placed::Next(next) => next,
+        Placed::Refused(_) => place,
+    }
+}
+
+// A byte as a number.
+fn wide(b: u8) -> u32
+    ensures { λ r. ⌜ (r ≡ b) × (r < 256) ⌝ }
+{
+    b as u32
+}
+
+// Writes what a request carries at a place, and answers the place after it.
+fn put_value(out: &mut [u8], place: usize, value: Value) -> usize
+    requires { ⌜ place + length (valueBytes value) ≤ length (now out) ⌝ }
+    ensures { λ r. ⌜ (r ≡ place + length (valueBytes value)) × (now (out .exit) ≡ overlay (now (out .entry)) place (valueBytes value)) ⌝ }
+{
+    match value {
+        Value::Nothing => place,
+        Value::Float(x) => put_number(out, place, bits_of(x), Width::Four),
+        Value::U32(n) => put_number(out, place, n, Width::Four),
+        Value::Address(a) => put_number(out, place, wide(a), Width::One),
+        Value::Baud(rate) => put_number(out, place, rate, Width::Four),
+    }
+}
+
+// Writes the subcommand, where there is one, and answers the place after it.
+fn put_sub(out: &mut [u8], place: usize, sub: Subcommand) -> usize
+    requires { ⌜ place + length (subBytes sub) ≤ length (now out) ⌝ }
+    ensures { λ r. ⌜ (r ≡ place + length (subBytes sub)) × (now (out .exit) ≡ overlay (now (out .entry)) place (subBytes sub)) ⌝ }
+{
+    match sub {
+        Subcommand::Missing => place,
+        Subcommand::Byte(s) => {
+            out[place] = s;
+            place + 1
+        }
+    }
+}
+
+// How many bytes the subcommand takes, and how many the value.
+fn sub_size(sub: Subcommand) -> usize
+    ensures { λ r. ⌜ (r ≡ length (subBytes sub)) × (r ≤ 1) ⌝ }
+{
+    match sub {
+        Subcommand::Missing => 0,
+        Subcommand::Byte(_) => 1,
+    }
+}
+
+fn value_size(value: Value) -> usize
+    ensures { λ r. ⌜ (r ≡ length (valueBytes value)) × (r ≤ 4) ⌝ }
+{
+    match value {
+        Value::Nothing => 0,
+        Value::Float(_) => 4,
+        Value::U32(_) => 4,
+        Value::Address(_) => 1,
+        Value::Baud(_) => 4,
+    }
+}
+
+// How many data bytes a request has.
+fn data_size(row: Row) -> usize
+    ensures { λ r. ⌜ (r ≡ length (dataOf row)) × (r ≤ 5) ⌝ }
+{
+    let sub = row.sub;
+    let value = row.value;
+    sub_size(sub) + value_size(value)
+}
+
+// Writes the body of a request, its checksum aside, at the start of `out`, and answers its length.
+fn put_body(out: &mut [u8], address: u8, row: Row, size: usize) -> usize
+    requires { ⌜ (8 ≤ length (now out)) × (size ≡ length (dataOf row)) × (size ≤ 5) ⌝ }
+    ensures { λ r. ⌜ (r ≡ length (bodyOf address row)) × (now (out .exit) ≡ overlay (now (out .entry)) 0 (bodyOf address row)) ⌝ }
+{
+    let sub = row.sub;
+    let value = row.value;
+    out[0] = address;
+    out[1] = row.command;
+    out[2] = size as u8;
+    let place = put_sub(out, 3, sub);
+    put_value(out, place, value)
+}
+
+// Writes the frame of a request at the start of the lent room.
+pub fn write_request(address: u8, request: Request, out: &mut [u8]) -> Written
+    ensures { λ r. ⌜ (paperWritten r, now (out .exit)) ≡ writeRequest address request (now (out .entry)) ⌝ }
+{
+    if let Checked::Refused(r) = check_request(address, request) {
+        return Written::Refused(r);
+    }
+    let asked = row_of(request);
+    let size = data_size(asked);
+    // No request of the table has so many data bytes; the scope asks for the test in both writers.
+    if 255 < size {
+        return Written::Refused(Refusal::BodyTooLong);
+    }
+    let mut body = [0u8; 8];
+    let end = put_body(&mut body, address, asked, size);
+    shdlc::write_frame(&body[..end], out)
+}
+
+// Writes the frame of a request into the room that a buffer has left from `start` on. Past its end there is none: 1, but only where
+// nothing else is refused.
+pub fn append_request(buffer: &mut [u8], start: usize, address: u8, request: Request) -> Written
+    ensures { λ r. ⌜ (paperWritten r, now (buffer .exit)) ≡ appendRequest (now (buffer .entry)) start address request ⌝ }
+{
+    let mut end = buffer.len();
+    if start < end {
+        end = start;
+    }
+    write_request(address, request, &mut buffer[end..])
+}
+
+// Lays the frames of a polling round one after another from `start` on: the same request to each of the nodes. The first frame that is
+// refused ends the round; those before it stand.
+pub fn poll_round(buffer: &mut [u8], start: usize, nodes: &[u8], request: Request) -> Round
+    ensures { λ r. ⌜ (paperRound r, now (buffer .exit)) ≡ pollRound (now (buffer .entry)) start (now (nodes .entry)) request ⌝ }
+{
+    let mut end = start;
+    let mut i: usize = 0;
+    while i < nodes.len() {
+        match append_request(buffer, end, nodes[i], request) {
+            Written::Done(size) => {
+                end += size;
+                i += 1;
+            }
+            Written::Refused(r) => {
+                return Round {
+                    frames: i,
+                    end: end,
+                    outcome: Checked::Refused(r),
+                };
+            }
+        }
+    }
+    Round {
+        frames: i,
+        end: end,
+        outcome: Checked::Good,
+    }
+}
+
+// Whether the data start with the subcommand, where there is one.
+fn starts_with(sub: Subcommand, payload: &[u8]) -> bool
+    ensures { λ r. ⌜ r ≡ startsWith sub (now (payload .entry)) ⌝ }
+{
+    match sub {
+        Subcommand::Missing => true,
+        Subcommand::Byte(s) => {
+            if payload.len() == 0 {
+                return false;
+            }
+            payload[0] == s
+        }
+    }
+}
+
+// Whether a row has this command and subcommand and, where that is asked for, as many data bytes.
+fn suits(row: Row, command: u8, payload: &[u8], whole: bool) -> bool
+    ensures { λ r. ⌜ r ≡ cond whole (fitting command (now (payload .entry))) (named command (now (payload .entry))) row ⌝ }
+{
+    let sub = row.sub;
+    if command != row.command {
+        return false;
+    }
+    if !starts_with(sub, payload) {
+        return false;
+    }
+    if whole {
+        return payload.len() == data_size(row);
+    }
+    true
+}
+
+// The first row that suits.
+fn find(command: u8, payload: &[u8], whole: bool) -> Found
+    ensures { λ r. ⌜ paperFound r ≡ first (cond whole (fitting command (now (payload .entry))) (named command (now (payload .entry)))) table ⌝ }
+{
+    let mut i: usize = 0;
+    while i < 21 {
+        if suits(row_of(request_of(i, 0)), command, payload, whole) {
+            return Found::At(i);
+        }
+        i += 1;
+    }
+    Found::Nothing
+}
+
+// The number of a width that ends the data.
+fn number(payload: &[u8], place: usize, width: Width) -> u32
+    requires { ⌜ length (now payload) ≡ place + bytesIn width ⌝ }
+    ensures { λ r. ⌜ r ≡ big (drop place (now (payload .entry))) ⌝ }
+{
+    match payload::number_at(payload, place, width) {
+        Field::Value(n, _) => n,
+        Field::Refused(_) => 0,
+    }
+}
+
+// The number that stands after the subcommand.
+fn carried(row: Row, payload: &[u8]) -> u32
+    requires { ⌜ length (now payload) ≡ length (dataOf row) ⌝ }
+    ensures { λ r. ⌜ r ≡ carried row (now (payload .entry)) ⌝ }
+{
+    let sub = row.sub;
+    let value = row.value;
+    let place = sub_size(sub);
+    match value {
+        Value::Nothing => 0,
+        Value::Float(_) => number(payload, place, Width::Four),
+        Value::U32(_) => number(payload, place, Width::Four),
+        Value::Address(_) => number(payload, place, Width::One),
+        Value::Baud(_) => number(payload, place, Width::Four),
+    }
+}
+
+// Reads a command and its data: 11, then 12 for the length.
+fn read_typed(command: u8, payload: &[u8]) -> Typed
+    ensures { λ r. ⌜ paperTyped r ≡ typed command (now (payload .entry)) ⌝ }
+{
+    let Found::At(_) = find(command, payload, false) else {
+        return Typed::Refused(Refusal::UnknownCommand);
+    };
+    let Found::At(place) = find(command, payload, true) else {
+        return Typed::Refused(Refusal::OutOfRange);
+    };
+    let n = carried(row_of(request_of(place, 0)), payload);
+    Typed::Known(request_of(place, n))
+}
+
+// Reads a request from its unstuffed body, checksum included.
+pub fn read_request(body: &[u8]) -> ReadRequest
+    ensures { λ r. ⌜ paperRead r ≡ readRequest (now (body .entry)) ⌝ }
+{
+    if let Checked::Refused(r) = shdlc::check_body(Kind::Request, body) {
+        return ReadRequest::Refused(r);
+    }
+    let end = body.len() - 1;
+    match read_typed(body[1], &body[3..end]) {
+        Typed::Refused(r) => ReadRequest::Refused(r),
+        Typed::Known(request) => {
+            let address = body[0];
+            match check_request(address, request) {
+                Checked::Refused(r) => ReadRequest::Refused(r),
+                Checked::Good => ReadRequest::Done(address, request),
+            }
+        }
+    }
+}
