@@ -1,0 +1,4 @@
+-- Laws that the proofs use.
+pub mod Told
+pub mod Structs
+pub mod Listed

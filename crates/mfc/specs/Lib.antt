@@ -1,0 +1,3 @@
+-- What the C interface gives, out of the definitions of the crates under it.
+pub mod Answers
+pub mod Codes
