@@ -2,3 +2,4 @@
 pub mod Told
 pub mod Structs
 pub mod Listed
+pub mod Numbered

@@ -1,3 +1,4 @@
 -- What the C interface gives, out of the definitions of the crates under it.
 pub mod Answers
 pub mod Codes
+pub mod Requests

@@ -22,6 +22,30 @@ pub struct MfcWritten {
     pub length: usize,
 }
 
+// What reading a request answers.
+#[repr(C)]
+pub struct MfcRequest {
+    // The refusal's number, 0 for none.
+    pub refusal: u8,
+    // The address that the request went to.
+    pub address: u8,
+    // The request's number, 0 to 20.
+    pub request: u8,
+    // The value that it carries, a float by its bits.
+    pub value: u32,
+}
+
+// What feeding a receiver answers. Without a refusal, and with frame_length 0, there is no item yet.
+#[repr(C)]
+pub struct MfcFed {
+    // The refusal's number, 0 for none.
+    pub refusal: u8,
+    // The length of the body that stands at the start of the lent frame.
+    pub frame_length: usize,
+    // The bytes taken from the piece.
+    pub taken: usize,
+}
+
 // What reading words answers.
 #[repr(C)]
 pub struct MfcWords {
