@@ -3,3 +3,5 @@ pub mod Told
 pub mod Structs
 pub mod Listed
 pub mod Numbered
+pub mod Heads
+pub mod Lent

@@ -2,3 +2,4 @@
 pub mod Answers
 pub mod Codes
 pub mod Requests
+pub mod Receivers
