@@ -26,7 +26,7 @@ use Rattle.receiver.proofs.Simulation.{At, at-next, gains, at-gain, at-
 abbrev placeOf : List Event → Place
 placeOf stream = placeFrom outside stream
 
-record-append : (es fs : List Event) (r : Record) → recordFrom r (es ++ fs) ≡ recordFrom (recordFrom r es) fs
+pub record-append : (es fs : List Event) (r : Record) → recordFrom r (es ++ fs) ≡ recordFrom (recordFrom r es) fs
 unfolding recordFrom
 record-append [] fs r = refl
 record-append (e ∷ es) fs r = record-append es fs (nextRecord r e)

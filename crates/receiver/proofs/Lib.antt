@@ -3,4 +3,5 @@ pub mod Turns
 pub mod Cases
 pub mod Simulation
 pub mod EverySeries
+pub mod Reached
 pub mod OneToOne

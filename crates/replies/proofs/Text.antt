@@ -7,7 +7,7 @@ use native.Mathlib.Omega.{arith}
 use lib.Dec.{T, eqb, ltb}
 use lib.ListN.{length, getD, take, drop}
 use borrow.Author.Tests.{eq-eqb, ne-eqb, lt-ltb, le-ltb, ltb-true, ltb-false}
-use Rattle.shdlc.proofs.Rest.{rest-here, rest-end}
+use Rattle.refusal.proofs.Rest.{rest-here, rest-end}
 use Rattle.sfc6.specs.Commands.{member}
 use Rattle.replies.specs.Reader.{textIn}
 

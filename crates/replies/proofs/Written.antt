@@ -27,7 +27,7 @@ use Rattle.sfc6.specs.declared.Row.{Row}
 use Rattle.sfc6.specs.Commands.{row}
 use Rattle.sfc6.specs.Requests.{requestChecks, checkRequest, lay}
 use Rattle.sfc6.proofs.Order.{never, first-refuses, then-more, passes-or-refuses, serves-it}
-use Rattle.sfc6.proofs.Writing.{take-overlay}
+use Rattle.refusal.proofs.Room.{take-overlay}
 use Rattle.replies.specs.declared.Reply.{Reply}
 use Rattle.replies.specs.declared.Reply.the-variants as reply
 use Rattle.replies.specs.declared.Reply.the-variants.{DeviceError}

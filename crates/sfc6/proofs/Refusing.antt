@@ -131,11 +131,11 @@ module _ (address : ℕ) (request : Request) (room : List ℕ) where
         refuses-10 = through (as-10 (length frame) x y z t);
         never-5 = λ h. as-5 (length frame) x y z t (sym answer ∙ h);
         refuses-1 = (
-          λ h. let p = no-room .0 h in (p .0, p .1, p .2, ltb-true _ _ (p .3)),
-          λ p. no-room .1 (p .0, p .1, p .2, lt-ltb _ _ (p .3)),
+          λ h. let p = no-room .0 h in ((p .0, p .1, p .2), ltb-true _ _ (p .3)),
+          λ p. no-room .1 (p .0 .0, p .0 .1, p .0 .2, lt-ltb _ _ (p .1)),
         );
         accepts = (
-          λ h. let p = done .0 h in (p .0, p .1, p .2, ltb-false _ _ (p .3)),
-          λ p. done .1 (p .0, p .1, p .2, le-ltb _ _ (p .3)),
+          λ h. let p = done .0 h in ((p .0, p .1, p .2), ltb-false _ _ (p .3)),
+          λ p. done .1 (p .0 .0, p .0 .1, p .0 .2, le-ltb _ _ (p .1)),
         );
       }

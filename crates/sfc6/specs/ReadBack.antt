@@ -31,6 +31,11 @@ Fits (U32 n) = n < 2 ^ 32
 Fits (Address a) = a < 2 ^ 8
 Fits (Baud rate) = rate < 2 ^ 32
 
+-- a request that none of 12, 13 and 10 refuses
+abbrev pub Passes : ℕ → Request → Type 0
+Passes address request =
+    (outOfRange (row request .value) ≡ false) × (badFloat (row request .value) ≡ false) × (addressToAll address (row request .value) ≡ false)
+
 -- when the writer gives each of its answers: 12, 13, 10 in their order, then 1; 5 never
 pub record Decides (address : ℕ) (request : Request) (room : List ℕ) : Type 0 where
   pub refuses-12 : (writeRequest address request room .0 ≡ refused (number 12)) ↔ (outOfRange (row request .value) ≡ true)
@@ -40,15 +45,9 @@ pub record Decides (address : ℕ) (request : Request) (room : List ℕ) : Type 
       ↔ ((outOfRange (row request .value) ≡ false) × (badFloat (row request .value) ≡ false) × (addressToAll address (row request .value) ≡ true))
   pub never-5 : writeRequest address request room .0 ≡ refused (number 5) → ⊥
   pub refuses-1 : (writeRequest address request room .0 ≡ refused (number 1))
-      ↔ ((outOfRange (row request .value) ≡ false)
-      × (badFloat (row request .value) ≡ false)
-      × (addressToAll address (row request .value) ≡ false)
-      × (length room < length (frameOf (bodyOf address (row request)))))
+      ↔ (Passes address request × (length room < length (frameOf (bodyOf address (row request)))))
   pub accepts : (writeRequest address request room .0 ≡ served (length (frameOf (bodyOf address (row request)))))
-      ↔ ((outOfRange (row request .value) ≡ false)
-      × (badFloat (row request .value) ≡ false)
-      × (addressToAll address (row request .value) ≡ false)
-      × (length (frameOf (bodyOf address (row request))) ≤ length room))
+      ↔ (Passes address request × (length (frameOf (bodyOf address (row request))) ≤ length room))
 
 -- the frames of one request to each of the nodes, one after another
 unfoldable pub framesOf : Request → List ℕ → List ℕ

@@ -16,7 +16,7 @@ use Rattle.shdlc.specs.Stuffing.{escapes, rightOf, sent, stuffByte, stuf
 use Rattle.shdlc.specs.Body.{checkBody}
 use Rattle.shdlc.specs.Frame.{withChecksum, frameOf}
 use Rattle.shdlc.specs.Stream.{Event, byte, mark, Item, judgeBody, judge, Place, outside, inside, nextByte, next, gain, itemsFrom, items}
-use Rattle.shdlc.proofs.Stuffing.{byte-short, unstuff-stuff}
+use Rattle.shdlc.proofs.Stuffing.{byte-short, each-byte, unstuff-stuff}
 
 -- the place after a stream
 unfoldable pub placeFrom : Place → List Event → Place
@@ -45,14 +45,9 @@ unbroken-append (x ∷ xs) ys h g = (h .0, unbroken-append xs ys (h .1) g)
 
 unbroken-byte : (b : ℕ) → Unbroken (stuffByte b)
 unfolding stuffByte
-unbroken-byte b = go (eqb b 0x7E) (eqb b 0x7D) (eqb b 0x11) (eqb b 0x13) refl refl refl refl
-  where
-    go : (x y z w : Bool) → eqb b 0x7E ≡ x → eqb b 0x7D ≡ y → eqb b 0x11 ≡ z → eqb b 0x13 ≡ w → Unbroken (sent b (rightOf escapes b))
-    go true y z w p q r s = rw p (refl, (refl, tt))
-    go false true z w p q r s = rw (p, q) (refl, (refl, tt))
-    go false false true w p q r s = rw (p, q, r) (refl, (refl, tt))
-    go false false false true p q r s = rw (p, q, r, s) (refl, (refl, tt))
-    go false false false false p q r s = rw (p, q, r, s) (p, tt)
+unbroken-byte =
+    each-byte (λ b. Unbroken (stuffByte b)) (refl, (refl, tt)) (refl, (refl, tt)) (refl, (refl, tt)) (refl, (refl, tt))
+    (λ b p q r s. rw (p, q, r, s) (p, tt))
 
 unbroken-stuff : (bytes : List ℕ) → Unbroken (stuff bytes)
 unfolding stuff

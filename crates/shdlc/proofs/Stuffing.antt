@@ -51,24 +51,26 @@ stuff-here l i h = rw (rest-here l i h)
 pub length-here : (l : List ℕ) (i : ℕ) → i < length l → length (stuff (drop i l)) ≡ length (stuffByte (getD l i 0)) + length (stuff (drop (i + 1) l))
 length-here l i h = rw (stuff-here l i h, length-append)
 
+-- what holds of the four bytes that are stuffed, and of every other, holds of each byte
+pub each-byte : (P : ℕ → Type 0) → P 0x7E → P 0x7D → P 0x11 → P 0x13
+    → ((b : ℕ) → eqb b 0x7E ≡ false → eqb b 0x7D ≡ false → eqb b 0x11 ≡ false → eqb b 0x13 ≡ false → P b) → (b : ℕ) → P b
+each-byte P delimiter escape xon xoff plain b = go (eqb b 0x7E) (eqb b 0x7D) (eqb b 0x11) (eqb b 0x13) refl refl refl refl
+  where
+    is : (k : ℕ) → eqb b k ≡ true → P k → P b
+    is k e h = subst P (sym (eqb-true b k e)) h
+
+    go : (x y z w : Bool) → eqb b 0x7E ≡ x → eqb b 0x7D ≡ y → eqb b 0x11 ≡ z → eqb b 0x13 ≡ w → P b
+    go true y z w p q r s = is 0x7E p delimiter
+    go false true z w p q r s = is 0x7D q escape
+    go false false true w p q r s = is 0x11 r xon
+    go false false false true p q r s = is 0x13 s xoff
+    go false false false false p q r s = plain b p q r s
+
 -- a byte that is sent comes back
-module _ (bytes : List ℕ) where
-  abbrev Back : ℕ → Type 0
-  Back b = unstuff (stuffByte b ++ bytes) ≡ prepend b (unstuff bytes)
-
-  is : (b k : ℕ) → eqb b k ≡ true → Back k → Back b
-  is b k e h = subst Back (sym (eqb-true b k e)) h
-
-  byte-back : (b : ℕ) → Back b
-  unfolding stuffByte unstuff
-  byte-back b = go (eqb b 0x7E) (eqb b 0x7D) (eqb b 0x11) (eqb b 0x13) refl refl refl refl
-    where
-      go : (x y z w : Bool) → eqb b 0x7E ≡ x → eqb b 0x7D ≡ y → eqb b 0x11 ≡ z → eqb b 0x13 ≡ w → Back b
-      go true y z w p q r s = is b 0x7E p refl
-      go false true z w p q r s = is b 0x7D q refl
-      go false false true w p q r s = is b 0x11 r refl
-      go false false false true p q r s = is b 0x13 s refl
-      go false false false false p q r s = simp (p, q, r, s)
+byte-back : (bytes : List ℕ) (b : ℕ) → unstuff (stuffByte b ++ bytes) ≡ prepend b (unstuff bytes)
+unfolding stuffByte unstuff
+byte-back bytes =
+    each-byte (λ b. unstuff (stuffByte b ++ bytes) ≡ prepend b (unstuff bytes)) refl refl refl refl (λ b p q r s. simp (p, q, r, s))
 
 pub unstuff-stuff : (bytes : List ℕ) → unstuff (stuff bytes) ≡ served bytes
 unfolding stuff unstuff prepend
