@@ -5,3 +5,4 @@ pub mod Listed
 pub mod Numbered
 pub mod Heads
 pub mod Lent
+pub mod Replying

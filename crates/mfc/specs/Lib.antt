@@ -3,3 +3,4 @@ pub mod Answers
 pub mod Codes
 pub mod Requests
 pub mod Receivers
+pub mod Answering

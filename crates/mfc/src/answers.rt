@@ -35,6 +35,25 @@ pub struct MfcRequest {
     pub value: u32,
 }
 
+// What reading a reply answers.
+#[repr(C)]
+pub struct MfcReply {
+    // The refusal's number, 0 for none.
+    pub refusal: u8,
+    // With refusal 15 the device's error code, 1 to 127.
+    pub code: u8,
+    // Bit 7 of the state, 0 or 1, beside a reply that was read and beside refusal 15.
+    pub bit7: u8,
+    // The reply's number, 0 to 14.
+    pub reply: u8,
+    // The value that it carries, a float by its bits.
+    pub value: u32,
+    // Where the text of a product type starts in the body: at 4, also an empty one.
+    pub text_start: usize,
+    // The bytes of that text.
+    pub text_length: usize,
+}
+
 // What feeding a receiver answers. Without a refusal, and with frame_length 0, there is no item yet.
 #[repr(C)]
 pub struct MfcFed {

@@ -2,5 +2,6 @@
 pub mod answers;
 pub mod readings;
 pub mod receivers;
+pub mod reply;
 pub mod requests;
 pub mod words;

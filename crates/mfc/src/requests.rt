@@ -21,13 +21,13 @@ pub extern "C" fn mfc_checksum(bytes: &[u8]) -> u8
     shdlc::checksum(bytes)
 }
 
-fn place(number: u8) -> usize
+pub(crate) fn place(number: u8) -> usize
     ensures { λ r. ⌜ r ≡ number ⌝ }
 {
     number as usize
 }
 
-fn wide(a: u8) -> u32
+pub(crate) fn wide(a: u8) -> u32
     ensures { λ r. ⌜ r ≡ a ⌝ }
 {
     a as u32
