@@ -1,20 +1,20 @@
 -- A record in lent bytes: what loads it, and what putting its head back leaves. Assumes nothing.
 use mathlib.Core.Path.{_≡_, refl, sym, ap, _∙_}
 use mathlib.Core.Bool.{Bool, true, false, cond}
-use mathlib.Core.List.{List, [], _∷_, _++_}
+use mathlib.Core.List.{List, [], _∷_}
 use mathlib.Core.Option.{Option, none, some}
 use Prim.Native.Nat.{ℕ, zero, suc, _+_, _*_, _/_, _%_, _≤_, _<_}
 use native.Mathlib.Omega.{arith}
 use borrow.Author.Tests.{lt-ltb, le-ltb, ltb-false}
 use lib.Dec.{ltb}
-use lib.ListN.{length, getD, take, drop, set}
+use lib.ListN.{length, getD, set}
 use Rattle.refusal.specs.Refusals.{numberOf, paper, refused}
 use Rattle.refusal.specs.Room.{overlay}
 use Rattle.refusal.specs.declared.Refusal.{Refusal}
 use Rattle.shdlc.specs.declared.Kind.{Kind}
 use Rattle.receiver.specs.declared.Mode.{Mode}
 use Rattle.receiver.specs.declared.Receiver.{Receiver}
-use Rattle.receiver.specs.Record.{Record, held}
+use Rattle.receiver.specs.Record.{held}
 use Rattle.receiver.specs.Calls.{gave}
 use Rattle.mfc.specs.declared.answers.MfcFed.{MfcFed}
 use Rattle.mfc.specs.declared.receivers.KindAt.{KindAt}
@@ -23,7 +23,7 @@ use Rattle.mfc.specs.declared.receivers.ModeAt.{ModeAt}
 use Rattle.mfc.specs.declared.receivers.ModeAt.the-variants as modes
 use Rattle.mfc.specs.declared.receivers.Loaded.{Loaded}
 use Rattle.mfc.specs.declared.receivers.Loaded.the-variants as loaded
-use Rattle.mfc.specs.Receivers.{nth, numberOfKind, numberOfMode, kindAt, modeAt, headOf, bytesOf, storeIn, recordOf, recordIn, paperKind, paperMode, paperLoaded, fed}
+use Rattle.mfc.specs.Receivers.{nth, numberOfKind, numberOfMode, kindAt, modeAt, headOf, storeIn, recordOf, recordIn, paperKind, paperMode, paperLoaded, fed}
 
 -- past the end of a list nothing stands
 pub nth-past : {A : Type 0} (xs : List A) (n : ℕ) → length xs ≤ n → nth xs n ≡ none

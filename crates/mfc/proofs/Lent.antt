@@ -1,12 +1,12 @@
 -- The three calls of a receiver over lent bytes: each `return`. Assumes nothing.
-use mathlib.Core.Path.{_≡_, refl, sym, ap, _∙_}
+use mathlib.Core.Path.{_≡_, sym, ap, _∙_}
 use mathlib.Core.List.{List, [], _∷_, _++_}
 use mathlib.Core.Option.{Option}
 use Prim.Native.Nat.{ℕ, _+_, _≤_, _<_}
 use native.Mathlib.Omega.{arith}
 use borrow.Author.Tests.{lt-ltb, le-ltb, eq-eqb}
 use lib.ListN.{length, take, drop, replicate, length-take, length-drop, take-append-drop}
-use Rattle.refusal.specs.Refusals.{number, numberOf, paper, Answered, served, refused}
+use Rattle.refusal.specs.Refusals.{numberOf, paper, Answered, served, refused}
 use Rattle.refusal.specs.Room.{overlay}
 use Rattle.refusal.specs.declared.Refusal.{Refusal}
 use Rattle.refusal.specs.declared.Refusal.the-variants.{NoRoom, OutOfRange, BadRecord}

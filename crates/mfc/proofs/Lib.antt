@@ -6,3 +6,4 @@ pub mod Numbered
 pub mod Heads
 pub mod Lent
 pub mod Replying
+pub mod Carried

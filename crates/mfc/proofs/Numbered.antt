@@ -13,7 +13,7 @@ use Rattle.sfc6.specs.Requests.{writeRequest}
 use Rattle.sfc6.specs.Rounds.{appendRequest}
 use Rattle.mfc.specs.declared.answers.MfcWritten.{MfcWritten}
 use Rattle.mfc.specs.declared.answers.MfcRequest.{MfcRequest}
-use Rattle.mfc.specs.Answers.{written, beside}
+use Rattle.mfc.specs.Answers.{written}
 use Rattle.mfc.specs.Requests.{placeOf, valueIn, valueOf, request, writeNumbered, appendNumbered}
 use Rattle.mfc.proofs.Told.{told}
 use Rattle.mfc.proofs.Structs.{answered}

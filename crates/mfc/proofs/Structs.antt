@@ -3,7 +3,7 @@ use mathlib.Core.Path.{_≡_, ap, _∙_}
 use mathlib.Core.List.{List}
 use mathlib.Core.Bool.{false}
 use Prim.Native.Nat.{ℕ}
-use lib.IntN.{ℤ, pos}
+use lib.IntN.{pos}
 use lib.Ieee.{fin}
 use Rattle.refusal.specs.Refusals.{numberOf, paper, refused}
 use Rattle.refusal.specs.declared.Refusal.{Refusal}

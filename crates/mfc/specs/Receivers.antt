@@ -12,7 +12,6 @@ use Rattle.shdlc.specs.declared.Kind.{Kind}
 use Rattle.shdlc.specs.declared.Kind.the-variants.{Request, Reply}
 use Rattle.receiver.specs.declared.Mode.{Mode}
 use Rattle.receiver.specs.declared.Mode.the-variants.{Outside, Plain, Escaped, BadEscape, BareControl}
-use Rattle.receiver.specs.declared.Receiver.{Receiver}
 use Rattle.receiver.specs.Record.{Record, held, fresh}
 use Rattle.receiver.specs.Calls.{Said, nothing, gave, Outcome, feedOf, silenceOf}
 use Rattle.mfc.specs.declared.answers.MfcFed.{MfcFed}

@@ -8,10 +8,9 @@ use refusal::Refusal;
 use shdlc::Kind;
 ghost use mathlib.Core.Path.{_≡_};
 ghost use Prim.Native.Nat.{_+_, _*_, _/_, _%_, _≤_};
-ghost use lib.ListN.{length, take, drop};
-ghost use Rattle.refusal.specs.Refusals.{number, refused};
+ghost use lib.ListN.{length};
 ghost use Rattle.refusal.specs.Room.{overlay};
-ghost use Rattle.receiver.specs.Calls.{gave, paperAnswer};
+ghost use Rattle.receiver.specs.Calls.{paperAnswer};
 ghost use Rattle.mfc.specs.Receivers.{numberOfKind, numberOfMode, kindAt, modeAt, paperKind, paperMode, paperLoaded, headOf, storeIn, recordIn, fed, refusalIn, freshRecord, feedRecord, silenceRecord};
 
 // A kind of frame, a mode and a record by their numbers.

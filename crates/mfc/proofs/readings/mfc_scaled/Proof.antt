@@ -1,6 +1,5 @@
 -- `mfc::readings::mfc_scaled` meets its contract. Assumes nothing.
 use borrow.Author.Needs.{needs}
-use mathlib.Core.Path.{refl, ap, _∙_}
 use mir.Syntax.{w16, w32}
 use mir.ValLaws.{toZ-ofZ}
 use Rattle.mfc.proofs.readings.mfc_scaled.Statement.{statement}

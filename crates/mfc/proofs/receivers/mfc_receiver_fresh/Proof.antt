@@ -1,6 +1,5 @@
 -- `mfc::receivers::mfc_receiver_fresh` meets its contract. Assumes nothing.
 use borrow.Author.Needs.{needs}
-use native.Mathlib.Omega.{arith}
 use Rattle.mfc.proofs.Lent.{fresh-short, fresh-kind, fresh-made, fresh-never, stored-long}
 use Rattle.mfc.proofs.receivers.mfc_receiver_fresh.Statement.{statement}
 use Rattle.mfc.proofs.receivers.mfc_receiver_fresh.Tie as tie

@@ -1,7 +1,6 @@
 -- `mfc::receivers::mfc_silence` meets its contract. Assumes nothing.
 use borrow.Author.Needs.{needs}
 use native.Mathlib.Omega.{arith}
-use mathlib.Core.Path.{_≡_}
 use Prim.Native.Nat.{_≤_}
 use lib.ListN.{length}
 use Rattle.mfc.proofs.Heads.{loaded-long}

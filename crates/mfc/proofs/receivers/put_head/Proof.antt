@@ -1,7 +1,7 @@
 -- `mfc::receivers::put_head` meets its contract. Assumes nothing.
 use borrow.Author.Needs.{needs}
 use native.Mathlib.Omega.{arith}
-use lib.ListN.{length, set, length-set}
+use lib.ListN.{length-set}
 use Rattle.mfc.proofs.Heads.{head-put}
 use Rattle.mfc.proofs.receivers.put_head.Statement.{statement}
 use Rattle.mfc.proofs.receivers.put_head.Tie as tie
