@@ -1,59 +1,25 @@
-/* mfc.h: frames, commands and words of mass flow controllers, for a supervisory program in C.
+/* Frames, requests and replies of SFC6 mass flow controllers on SHDLC, words and commands of
+ * two sensor families on I2C, and scaled readings. No function keeps state or a pointer, or
+ * allocates. Each takes any numbers and any bytes.
  *
- * Every function takes numbers and byte slices (a pointer and a length) and keeps no pointer after it returns. None allocates,
- * blocks or has state of its own: the same arguments give the same answer, from any thread.
+ * A slice is a pointer and a length. A pointer may be NULL only with length 0, and the buffers
+ * lent to one call do not overlap. The length of a slice of uint16_t is in words.
  *
- * Slices. A pointer may be NULL only with length 0. The buffers lent to one call do not overlap. Rooms and lengths of uint16_t
- * slices are counted in words, all others in bytes.
+ * A result is a number, or a struct whose first field is the number of a refusal, 0 for none.
+ * Every other field is 0 where nothing is said of it. A refusal leaves all lent buffers as they
+ * were, save that a receiver's record goes on past an item that is refused with 3 to 9. A
+ * writer that succeeds changes only the bytes of its answer.
  *
- * Refusals. `refusal` is 0 for none. With any other number every buffer lent is as it was, and every field of the answer of
- * which nothing is said here is 0:
+ * A receiver's record is the first 264 bytes of a slice that the caller keeps from call to
+ * call: kind (0 requests, 1 replies), mode (0 outside a frame, 1 in one, 2 after a 7D, 3 and 4
+ * the refusal found), length (high byte, low byte), and 260 bytes of store. Bytes past 264 are
+ * not touched.
  *
- *      1  lent room is less than this answer needs (receiver: less than 260 bytes)
- *      2  receiver record outside its ranges
- *      3  7D not followed by 5E, 5D, 31 or 33, or last in the stretch
- *      4  11 or 13 not after a 7D
- *      5  body over 259 bytes (request) or 260 (reply)
- *      6  body under 4 bytes (request) or 5 (reply)
- *      7  L differs from the data bytes present
- *      8  checksum wrong
- *      9  non-empty stretch cut off by silence
- *     10  set slave address sent to address 255
- *     11  command or subcommand not in the table; subcommand missing; a request number over 20
- *     12  a request's data length not in the table, or a value out of its range
- *     13  float not allowed there
- *     14  reply does not belong to the request
- *     15  device reported an execution error; carries its code, 1 to 127
- *     16  word bytes empty or not a multiple of 3; list of words to write empty
- *     17  a word's CRC wrong; carries the first such word's index, from 0
- *     18  scale factor outside 1 to 32,767
- *
- * Where a function lists several refusals, the earliest in its list that holds is the one given.
- *
- * Requests, with what `value` is:
- *
- *      0  get setpoint               7  raw flow                      14  set calibration       number
- *      1  set setpoint    float      8  raw conductivity              15  volatile calibration  number
- *      2  measured value             9  temperature                   16  get slave address
- *      3  get gain                  10  number of calibrations        17  set slave address     0 to 254
- *      4  set gain        float     11  calibration validity  index   18  get baud rate
- *      5  get init step             12  full scale                    19  set baud rate         one of five
- *      6  set init step   float     13  get calibration               20  product type
- *
- * Beside a request that takes no value, `value` is not looked at. A float is given by its 32 bits and must be finite. A baud
- * rate is 9600, 19200, 38400, 57600 or 115200, here and in a reply.
- *
- * Replies, with what `value` is:
- *
- *      0  acknowledged (no data)     6  raw conductivity   u16        12  slave address  0 to 254
- *      1  setpoint       float       7  temperature        float      13  baud rate      one of five
- *      2  measured value float       8  number of calibrations  u32   14  product type   its text stands beside it
- *      3  gain           float       9  validity           0 or 1     15  device error   its code, 1 to 127; written only
- *      4  init step      float      10  full scale         float
- *      5  raw flow       u16        11  calibration        u32
- *
- * A float crosses by its bits and is finite, or one of FFFFFFFF invalid, 7F800000 plus infinity, FF800000 minus infinity.
- */
+ * The value of a request or a reply is a number, a float by its bits. Beside a request or a
+ * reply that carries none it is not looked at. In a reply FFFFFFFF hex is an invalid reading,
+ * 7F800000 plus infinity and FF800000 minus infinity. */
+
+/* Made by tools/header of crates/mfc/src: change it there. */
 #ifndef MFC_H
 #define MFC_H
 
@@ -64,112 +30,282 @@
 extern "C" {
 #endif
 
-/* What a writer answers: the bytes written, from the start of the lent room. */
-typedef struct { uint8_t refusal; size_t length; } mfc_written;
+/* Refusals. */
+enum {
+    /* lent room is less than this answer needs. */
+    MFC_REFUSAL_NO_ROOM = 1,
+    /* receiver record outside its ranges. */
+    MFC_REFUSAL_BAD_RECORD = 2,
+    /* 7D not followed by 5E, 5D, 31 or 33, or last in the stretch. */
+    MFC_REFUSAL_BAD_ESCAPE = 3,
+    /* 11 or 13 not after a 7D. */
+    MFC_REFUSAL_BARE_CONTROL = 4,
+    /* body over 259 (request) or 260 (reply). */
+    MFC_REFUSAL_BODY_TOO_LONG = 5,
+    /* body under 4 (request) or 5 (reply). */
+    MFC_REFUSAL_BODY_TOO_SHORT = 6,
+    /* L differs from the data bytes present. */
+    MFC_REFUSAL_WRONG_LENGTH = 7,
+    /* checksum wrong. */
+    MFC_REFUSAL_WRONG_CHECKSUM = 8,
+    /* non-empty stretch cut off by silence. */
+    MFC_REFUSAL_CUT_BY_SILENCE = 9,
+    /* set slave address sent to address 255. */
+    MFC_REFUSAL_ADDRESS_BROADCAST = 10,
+    /* command or subcommand not in the table; subcommand missing. */
+    MFC_REFUSAL_UNKNOWN_COMMAND = 11,
+    /* a data length not in the table, a value out of its range, or a field past the payload's
+     * end. */
+    MFC_REFUSAL_OUT_OF_RANGE = 12,
+    /* float not allowed there. */
+    MFC_REFUSAL_BAD_FLOAT = 13,
+    /* reply does not belong to the request. */
+    MFC_REFUSAL_FOREIGN_REPLY = 14,
+    /* device reported an execution error; its code, 1 to 127. */
+    MFC_REFUSAL_DEVICE_ERROR = 15,
+    /* word bytes empty or not a multiple of 3; list of words to write empty. */
+    MFC_REFUSAL_BAD_WORD_COUNT = 16,
+    /* a word's CRC wrong; the first such word's index, from 0. */
+    MFC_REFUSAL_WRONG_CRC = 17,
+    /* scale factor outside 1 to 32,767. */
+    MFC_REFUSAL_BAD_SCALE = 18
+};
 
-/* A request as read: its address, its number and its value (0 where it takes none). */
-typedef struct { uint8_t refusal; uint8_t address; uint8_t request; uint32_t value; } mfc_request;
+/* Kinds of receivers. */
+enum {
+    MFC_KIND_REQUEST = 0,
+    MFC_KIND_REPLY = 1
+};
 
-/* A reply as read. `code` is the device's code with refusal 15, else 0. `bit7` is the device error flag, 0 or 1, beside an
-   accepted reply and beside 15. `text_start` counts from the body's start and is 4 for every product type, else 0. */
+/* Requests. */
+enum {
+    MFC_REQUEST_GET_SETPOINT = 0,
+    MFC_REQUEST_SET_SETPOINT = 1,
+    MFC_REQUEST_MEASURED_VALUE = 2,
+    MFC_REQUEST_GET_GAIN = 3,
+    MFC_REQUEST_SET_GAIN = 4,
+    MFC_REQUEST_GET_INIT_STEP = 5,
+    MFC_REQUEST_SET_INIT_STEP = 6,
+    MFC_REQUEST_RAW_FLOW = 7,
+    MFC_REQUEST_RAW_CONDUCTIVITY = 8,
+    MFC_REQUEST_TEMPERATURE = 9,
+    MFC_REQUEST_NUMBER_OF_CALIBRATIONS = 10,
+    MFC_REQUEST_VALIDITY = 11,
+    MFC_REQUEST_FULL_SCALE = 12,
+    MFC_REQUEST_GET_CALIBRATION = 13,
+    MFC_REQUEST_SET_CALIBRATION = 14,
+    MFC_REQUEST_VOLATILE_CALIBRATION = 15,
+    MFC_REQUEST_GET_ADDRESS = 16,
+    MFC_REQUEST_SET_ADDRESS = 17,
+    MFC_REQUEST_GET_BAUD = 18,
+    MFC_REQUEST_SET_BAUD = 19,
+    MFC_REQUEST_PRODUCT_TYPE = 20
+};
+
+/* Replies. */
+enum {
+    MFC_REPLY_ACKNOWLEDGED = 0,
+    MFC_REPLY_SETPOINT = 1,
+    MFC_REPLY_MEASURED_VALUE = 2,
+    MFC_REPLY_GAIN = 3,
+    MFC_REPLY_INIT_STEP = 4,
+    MFC_REPLY_RAW_FLOW = 5,
+    MFC_REPLY_RAW_CONDUCTIVITY = 6,
+    MFC_REPLY_TEMPERATURE = 7,
+    MFC_REPLY_NUMBER_OF_CALIBRATIONS = 8,
+    MFC_REPLY_VALIDITY = 9,
+    MFC_REPLY_FULL_SCALE = 10,
+    MFC_REPLY_CALIBRATION = 11,
+    MFC_REPLY_ADDRESS = 12,
+    MFC_REPLY_BAUD = 13,
+    MFC_REPLY_PRODUCT_TYPE = 14,
+    MFC_REPLY_DEVICE_ERROR = 15
+};
+
+/* What a writer answers. */
 typedef struct {
-    uint8_t refusal; uint8_t code; uint8_t bit7; uint8_t reply;
-    uint32_t value; size_t text_start; size_t text_length;
+    /* The refusal's number, 0 for none. */
+    uint8_t refusal;
+    /* The bytes written. */
+    size_t length;
+} mfc_written;
+
+/* What reading a request answers. */
+typedef struct {
+    /* The refusal's number, 0 for none. */
+    uint8_t refusal;
+    /* The address that the request went to. */
+    uint8_t address;
+    /* The request's number, 0 to 20. */
+    uint8_t request;
+    /* The value that it carries, a float by its bits. */
+    uint32_t value;
+} mfc_request;
+
+/* What reading a reply answers. */
+typedef struct {
+    /* The refusal's number, 0 for none. */
+    uint8_t refusal;
+    /* With refusal 15 the device's error code, 1 to 127. */
+    uint8_t code;
+    /* Bit 7 of the state, 0 or 1, beside a reply that was read and beside refusal 15. */
+    uint8_t bit7;
+    /* The reply's number, 0 to 14. */
+    uint8_t reply;
+    /* The value that it carries, a float by its bits. */
+    uint32_t value;
+    /* Where the text of a product type starts in the body: at 4, also an empty one. */
+    size_t text_start;
+    /* The bytes of that text. */
+    size_t text_length;
 } mfc_reply;
 
-/* What a feeding call answers: the length of the frame's body (0 for no frame) and the bytes of the piece it took. */
-typedef struct { uint8_t refusal; size_t frame_length; size_t taken; } mfc_fed;
+/* What feeding a receiver answers. Without a refusal, and with frame_length 0, there is no item
+ * yet. */
+typedef struct {
+    /* The refusal's number, 0 for none. */
+    uint8_t refusal;
+    /* The length of the body that stands at the start of the lent frame. */
+    size_t frame_length;
+    /* The bytes taken from the piece. */
+    size_t taken;
+} mfc_fed;
 
-/* Words read: how many, or with refusal 17 the index of the first bad one. */
-typedef struct { uint8_t refusal; size_t count; } mfc_words;
+/* What reading words answers. */
+typedef struct {
+    /* The refusal's number, 0 for none. */
+    uint8_t refusal;
+    /* The words stored; with refusal 17 the index of the first word whose CRC is wrong. */
+    size_t count;
+} mfc_words;
 
-/* A register's value after an edit. */
-typedef struct { uint8_t refusal; uint16_t value; } mfc_register;
+/* What a field edit answers. */
+typedef struct {
+    /* The refusal's number, 0 for none. */
+    uint8_t refusal;
+    /* The register with the field changed. */
+    uint16_t value;
+} mfc_register;
 
-/* A reading in thousandths of its unit. */
-typedef struct { uint8_t refusal; int32_t value; } mfc_thousandths;
+/* What a scaled reading answers. */
+typedef struct {
+    /* The refusal's number, 0 for none. */
+    uint8_t refusal;
+    /* The reading in thousandths of the unit. */
+    int32_t value;
+} mfc_thousandths;
 
-/* A reading in its unit. */
-typedef struct { uint8_t refusal; float value; } mfc_quantity;
+/* What a scaled reading in single precision answers. */
+typedef struct {
+    /* The refusal's number, 0 for none. */
+    uint8_t refusal;
+    /* The reading in the unit. */
+    float value;
+} mfc_quantity;
 
-/* The checksum of a body: 255 minus (the sum of the bytes, modulo 256). Refuses nothing. */
+/* The checksum of the n bytes of a body before it: 255 minus their sum modulo 256. It refuses
+ * nothing. */
 uint8_t mfc_checksum(const uint8_t *bytes, size_t n);
 
-/* CRC-8 of polynomial 31 hex from any start value: 00 for liquid sensors, FF for SFC6. Refuses nothing. */
-uint8_t mfc_crc(uint8_t start, const uint8_t *bytes, size_t n);
+/* Writes the frame of a request. Refusals, in their order: 11 for a request over 20; 12 for an
+ * address over 254 to be set, or a baud that is none of 9600, 19200, 38400, 57600 and 115200;
+ * 13 for a float that is not finite; 10 for set address sent to 255; 5 never; 1 where the frame
+ * is longer than room. */
+mfc_written mfc_write_request(uint8_t address, uint8_t request, uint32_t value,
+                              uint8_t *out, size_t room);
 
-/* Writes a request's frame to the start of `out`; 17 bytes hold any of them.
-   Refusals, in order: 11 request over 20; 12 address or baud rate out of range; 13 float not finite; 10 set slave address to
-   255; 1 the frame does not fit. */
-mfc_written mfc_write_request(uint8_t address, uint8_t request, uint32_t value, uint8_t *out, size_t room);
+/* Writes the frame of a request into a buffer from start on, as one frame of a polling round;
+ * all else in the buffer stays. The length is the frame's. Refusals as those of
+ * mfc_write_request; 1 also where start is past the buffer. */
+mfc_written mfc_write_request_at(uint8_t *buffer, size_t size, size_t start, uint8_t address,
+                                 uint8_t request, uint32_t value);
 
-/* The same at `start` of a buffer of `size` bytes, for a polling round laid frame after frame. `length` is the frame's own: the
-   next one starts at start + length.
-   Refusals, in order: 11; 12; 13; 10; 1 the frame does not fit behind `start`, or `start` is past the buffer. */
-mfc_written mfc_write_request_at(uint8_t *buffer, size_t size, size_t start, uint8_t address, uint8_t request, uint32_t value);
-
-/* Reads the unstuffed body of a request's frame: address to checksum, as mfc_feed leaves it.
-   Refusals, in order: 5 over 259 bytes; 6 under 4; 7 L wrong; 8 checksum wrong; 11 command or subcommand unknown; 12 data
-   length or value out of range; 13 float not finite; 10 set slave address to 255. */
+/* Reads a request from the n bytes of its unstuffed body, checksum included. Refusals, in their
+ * order: 5 to 8 of the body (over 259 bytes, under 4, L wrong, checksum wrong); 11 for a
+ * command or subcommand not in the table; 12 for a data length not in the table, an address or
+ * a baud out of range; 13 for a float that is not finite; 10 for set address sent to 255. */
 mfc_request mfc_read_request(const uint8_t *body, size_t n);
 
-/* Writes the frame that answers (address, request, value) with `reply`; 518 bytes hold any of them. `text` is looked at beside
-   reply 14 only: at most 254 bytes, none of them 00. `bit7`: 0 for no device error flag, else set.
-   Refusals, in order: 11, 12, 13, 10 of the request; 14 reply of another kind, a number over 15, or any reply to 255; 12 value
-   or text out of range; 13 float neither finite nor one of the three codings; 1 the frame does not fit. */
-mfc_written mfc_write_reply(uint8_t address, uint8_t request, uint32_t value, uint8_t reply, uint32_t reply_value,
-                            const uint8_t *text, size_t n, uint8_t bit7, uint8_t *out, size_t room);
+/* Writes the frame of the reply to a request. The n bytes of text are those of a product type;
+ * beside any other reply they are not looked at. bit7 is bit 7 of the state: 0 for no, else
+ * yes. Refusals, in their order: 11 for a request over 20; 12, 13 and 10 of the request itself,
+ * as of mfc_write_request; 14 for a request to 255, a reply over 15, or one that is neither
+ * expected nor a device error; 12 for a raw flow or raw conductivity over 65,535, an address
+ * over 254, a validity over 1, a baud that is none of the five, an error code outside 1 to 127,
+ * or a text that holds a 00 or is over 254 bytes; 13 for a float that is neither finite nor one
+ * of the three codings; 5 never; 1 where the frame is longer than room. */
+mfc_written mfc_write_reply(uint8_t address, uint8_t request, uint32_t value, uint8_t reply,
+                            uint32_t reply_value, const uint8_t *text, size_t n, uint8_t bit7,
+                            uint8_t *out, size_t room);
 
-/* Reads the unstuffed body of a reply's frame as the answer to (address, request, value).
-   Refusals, in order: 11, 12, 13, 10 of the request; 5 over 260 bytes; 6 under 5; 7 L wrong; 8 checksum wrong; 14 another
-   address, command or data length, data beside an error code, or a request to 255; 15 the device's error, with `code` and
-   `bit7`; 12 value out of range; 13 float neither finite nor one of the three codings. */
-mfc_reply mfc_read_reply(uint8_t address, uint8_t request, uint32_t value, const uint8_t *body, size_t n);
+/* Reads the reply to a request from the n bytes of its unstuffed body, checksum included.
+ * Refusals, in their order: 11 for a request over 20; 12, 13 and 10 of the request itself, as
+ * of mfc_write_request; 5 to 8 of the body (over 260 bytes, under 5, L wrong, checksum wrong);
+ * 14 for a request to 255, another address or command, data beside an error code, or a data
+ * length not in the table; 15 for a device error; 12 for a validity, an address or a baud out
+ * of range; 13 for a float that is neither finite nor one of the three codings. */
+mfc_reply mfc_read_reply(uint8_t address, uint8_t request, uint32_t value,
+                         const uint8_t *body, size_t n);
 
-/* Makes a fresh receiver in the first 264 bytes of `record`; kind 0 receives requests, 1 replies. The record is the caller's to
-   keep between calls and nobody's to change. Bytes past 264 are not touched here or below.
-   Refusals, in order: 1 under 264 bytes; 12 another kind. */
+/* Makes a fresh receiver of a kind, 0 for requests and 1 for replies, in the first 264 bytes of
+ * record. Answers the refusal's number, 0 for none. Refusals, in their order: 1 where size is
+ * under 264; 12 for another kind. */
 uint8_t mfc_receiver_fresh(uint8_t kind, uint8_t *record, size_t size);
 
-/* Takes the bytes of `piece` up to and including the first that completes an item, else all of them, and says how many: hand
-   the rest in again. An item is a frame, whose unstuffed body then stands at the start of `frame`, or one of 3 to 8.
-   Refusals: 2 record under 264 bytes or out of its ranges, nothing taken; 1 `room` under 260, nothing taken; then the item's:
-   the earliest of 3 and 4, else 5; 6; 7; 8. */
-mfc_fed mfc_feed(uint8_t *record, size_t size, const uint8_t *piece, size_t n, uint8_t *frame, size_t room);
+/* Hands the n bytes of a piece to the receiver whose record is lent. It takes bytes up to and
+ * including the one that completes an item, or all of them: hand in the rest again. A frame's
+ * unstuffed body stands at the start of frame; else frame is untouched. Refusals, in their
+ * order: 2 where size is under 264 or a field of the record is out of its range; 1 where room
+ * is under 260, and nothing is taken; else the refusal that a closed stretch of bytes is: 3 for
+ * a wrong escape, 4 for a bare 11 or 13 hex, then 5 to 8 of the body (too long, too short, L
+ * wrong, checksum wrong). */
+mfc_fed mfc_feed(uint8_t *record, size_t size, const uint8_t *piece, size_t n,
+                 uint8_t *frame, size_t room);
 
-/* Tells the receiver that the line was silent for over 200 ms.
-   Refusals, in order: 2 record under 264 bytes or out of its ranges; 9 a non-empty stretch was cut off. */
+/* Tells the receiver whose record is lent of silence over 200 ms: what was begun is cut off,
+ * and bytes are noise until the next 7E. Answers the refusal's number, 0 for none: 2 where size
+ * is under 264 or a field of the record is out of its range; 9 where bytes of a frame were cut
+ * off. */
 uint8_t mfc_silence(uint8_t *record, size_t size);
 
-/* Reads n / 3 words of high byte, low byte, CRC; all are checked before one is stored.
-   Refusals, in order: 16 empty or not a multiple of 3; 17 CRC wrong, with the first such word's index in `count`; 1 fewer than
-   n / 3 words of room. */
-mfc_words mfc_read_words(uint8_t start, const uint8_t *bytes, size_t n, uint16_t *words, size_t room);
+/* The CRC-8 of n bytes from a start value: 00 for liquid sensors, FF for SFC6; any other is
+ * taken too. It refuses nothing. */
+uint8_t mfc_crc(uint8_t start, const uint8_t *bytes, size_t n);
 
-/* Writes n words as high byte, low byte, CRC.
-   Refusals, in order: 16 no words; 1 under 3 * n bytes of room. */
-mfc_written mfc_write_words(uint8_t start, const uint16_t *words, size_t n, uint8_t *out, size_t room);
+/* Reads n bytes as words of high byte, low byte and CRC, and stores their numbers at the start
+ * of words, of which there are room. Every word is checked before any is stored. Refusals, in
+ * their order: 16 where there is no byte or n is no multiple of 3; 17 where a CRC is wrong; 1
+ * where there are more words than room. */
+mfc_words mfc_read_words(uint8_t start, const uint8_t *bytes, size_t n,
+                         uint16_t *words, size_t room);
 
-/* Writes an SFC6 command: E102, E000, 3FEF and 3F6E as two bytes; E17D, 3650 and 365B with the concentration, 0 to 1000 per
-   mille, as a word with its CRC (five bytes). The bus driver sends the I2C header byte.
-   Refusals, in order: 12 another code, or a concentration over 1000 where it is looked at; 1 the command does not fit. */
+/* Writes n words, each as high byte, low byte and CRC. Refusals, in their order: 16 where n is
+ * 0; 1 where 3 n bytes are more than room. */
+mfc_written mfc_write_words(uint8_t start, const uint16_t *words, size_t n,
+                            uint8_t *out, size_t room);
+
+/* Writes an SFC6 command: its code E102, E000, E17D, 3650, 365B, 3FEF or 3F6E, and after E17D,
+ * 3650 and 365B the concentration in per mille as a word with CRC; beside another code the
+ * concentration is not looked at. Refusals, in their order: 12 for another code, or a
+ * concentration over 1000; 1 where room is under 2 bytes, with a concentration 5. */
 mfc_written mfc_write_sfc6(uint16_t code, uint32_t concentration, uint8_t *out, size_t room);
 
-/* Writes a liquid sensor's command: E3, E5, F1, F3, F5 and FE as one byte; E2 and E4 with the register's value, without CRC
-   (three bytes).
-   Refusals, in order: 12 another code; 1 the command does not fit. */
+/* Writes a liquid command: its code E2, E3, E4, E5, F1, F3, F5 or FE, and after E2 and E4 the
+ * register's value without CRC; beside another code the value is not looked at. Refusals, in
+ * their order: 12 for another code; 1 where room is 0, with a value under 3. */
 mfc_written mfc_write_liquid(uint8_t code, uint16_t value, uint8_t *out, size_t room);
 
-/* Puts a calibration field, 0 to 4, into bits 6:4 of the user register. Refusal: 12 field over 4. */
+/* The user register with another calibration field, bits 6:4. Refusal 12 for a field over 4. */
 mfc_register mfc_edit_user(uint16_t value, uint32_t field);
 
-/* Puts a resolution, 0 to 7, into bits 11:9 of the advanced user register. Refusal: 12 field over 7. */
+/* The advanced register with another resolution, bits 11:9. Refusal 12 for a field over 7. */
 mfc_register mfc_edit_advanced(uint16_t value, uint32_t field);
 
-/* (raw - offset) * 1000 / scale, rounded to nearest, halves away from zero. Refusal: 18 scale outside 1 to 32,767. */
+/* (raw - offset) x 1000 / scale, rounded to nearest, halves away from zero. Refusal 18 for a
+ * scale outside 1 to 32,767. */
 mfc_thousandths mfc_scaled(int16_t raw, int16_t offset, int32_t scale);
 
-/* (raw - offset) / scale in single precision. Refusal: 18 scale outside 1 to 32,767. */
+/* (raw - offset) / scale in single precision. Refusal 18 for a scale outside 1 to 32,767. */
 mfc_quantity mfc_scaled_float(int16_t raw, int16_t offset, int32_t scale);
 
 #ifdef __cplusplus

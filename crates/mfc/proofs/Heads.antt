@@ -1,0 +1,87 @@
+-- A record in lent bytes: what loads it, and what putting its head back leaves. Assumes nothing.
+use mathlib.Core.Path.{_≡_, refl, sym, ap, _∙_}
+use mathlib.Core.Bool.{Bool, true, false, cond}
+use mathlib.Core.List.{List, [], _∷_}
+use mathlib.Core.Option.{Option, none, some}
+use Prim.Native.Nat.{ℕ, zero, suc, _+_, _*_, _/_, _%_, _≤_, _<_}
+use native.Mathlib.Omega.{arith}
+use borrow.Author.Tests.{lt-ltb, le-ltb, ltb-false}
+use lib.Dec.{ltb}
+use lib.ListN.{length, getD, set}
+use Rattle.refusal.specs.Refusals.{numberOf, paper, refused}
+use Rattle.refusal.specs.Room.{overlay}
+use Rattle.refusal.specs.declared.Refusal.{Refusal}
+use Rattle.shdlc.specs.declared.Kind.{Kind}
+use Rattle.receiver.specs.declared.Mode.{Mode}
+use Rattle.receiver.specs.declared.Receiver.{Receiver}
+use Rattle.receiver.specs.Record.{held}
+use Rattle.receiver.specs.Calls.{gave}
+use Rattle.mfc.specs.declared.answers.MfcFed.{MfcFed}
+use Rattle.mfc.specs.declared.receivers.KindAt.{KindAt}
+use Rattle.mfc.specs.declared.receivers.KindAt.the-variants as kinds
+use Rattle.mfc.specs.declared.receivers.ModeAt.{ModeAt}
+use Rattle.mfc.specs.declared.receivers.ModeAt.the-variants as modes
+use Rattle.mfc.specs.declared.receivers.Loaded.{Loaded}
+use Rattle.mfc.specs.declared.receivers.Loaded.the-variants as loaded
+use Rattle.mfc.specs.Receivers.{nth, numberOfKind, numberOfMode, kindAt, modeAt, headOf, storeIn, recordOf, recordIn, paperKind, paperMode, paperLoaded, fed}
+
+-- past the end of a list nothing stands
+pub nth-past : {A : Type 0} (xs : List A) (n : ℕ) → length xs ≤ n → nth xs n ≡ none
+nth-past [] n h = refl
+nth-past (x ∷ xs) zero h = absurd (omega arith)
+nth-past (x ∷ xs) (suc n) h = nth-past xs n (omega arith)
+
+-- loading: each `return`
+module _ (lent : List ℕ) where
+  pub load-short : length lent < 264 → none ≡ recordIn lent
+  unfolding recordIn
+  load-short h = rw (lt-ltb (length lent) 264 h)
+
+  module _ (long : 264 ≤ length lent) where
+    pub load-kind : {k : KindAt} → paperKind k ≡ kindAt (getD lent 0 0) → k ≡ kinds.Unknown → none ≡ recordIn lent
+    unfolding recordIn
+    load-kind e is =
+        rw (le-ltb (length lent) 264 long)
+        (ap (λ (o : Option Kind). recordOf o (modeAt (getD lent 1 0)) (getD lent 2 0 * 256 + getD lent 3 0) (storeIn lent)) (sym (ap paperKind is) ∙ e))
+
+    module _ {k : KindAt} {kind : Kind} (e : paperKind k ≡ kindAt (getD lent 0 0)) (is : k ≡ kinds.Known kind) where
+      pub load-mode : {m : ModeAt} → paperMode m ≡ modeAt (getD lent 1 0) → m ≡ modes.Unknown → none ≡ recordIn lent
+      unfolding recordIn
+      load-mode f on =
+          rw (le-ltb (length lent) 264 long, ← e, is, ← f, on)
+
+      pub load-held : {m : ModeAt} {mode : Mode} {len : ℕ} → paperMode m ≡ modeAt (getD lent 1 0) → m ≡ modes.Known mode
+          → len ≡ getD lent 2 0 * 256 + getD lent 3 0
+          → some (record { kind = kind; mode = mode; len = len; store = storeIn lent }) ≡ recordIn lent
+      unfolding recordIn
+      load-held f on g =
+          rw (le-ltb (length lent) 264 long, ← e, is, ← f, on, g)
+
+-- a record that was loaded has its bytes
+pub loaded-long : (lent : List ℕ) {l : Loaded} {r : Receiver} → paperLoaded l (storeIn lent) ≡ recordIn lent → l ≡ loaded.Held r → 264 ≤ length lent
+unfolding recordIn
+loaded-long lent {l} {r} e is = go (ltb (length lent) 264) refl (sym (ap (λ (x : Loaded). paperLoaded x (storeIn lent)) is) ∙ e)
+  where
+    go : (t : Bool) → ltb (length lent) 264 ≡ t
+        → some (held r (storeIn lent))
+        ≡ cond t none (recordOf (kindAt (getD lent 0 0)) (modeAt (getD lent 1 0)) (getD lent 2 0 * 256 + getD lent 3 0) (storeIn lent))
+        → 264 ≤ length lent
+    go true h f = absurd (let z : _≡_ {A = ℕ} 0 1 = cc in omega arith)
+    go false h f = ltb-false (length lent) 264 h
+
+-- four stores at the start
+four : (l : List ℕ) (a b c d : ℕ) → 4 ≤ length l → set (set (set (set l 0 a) 1 b) 2 c) 3 d ≡ overlay l 0 (a ∷ b ∷ c ∷ d ∷ [])
+unfolding overlay
+four [] a b c d h = absurd (omega arith)
+four (x ∷ []) a b c d h = absurd (omega arith)
+four (x ∷ y ∷ []) a b c d h = absurd (omega arith)
+four (x ∷ y ∷ z ∷ []) a b c d h = absurd (omega arith)
+four (x ∷ y ∷ z ∷ w ∷ l) a b c d h = refl
+
+pub head-put : (l : List ℕ) (kind : Kind) (mode : Mode) (len : ℕ) {a b c d : ℕ} → 4 ≤ length l → a ≡ numberOfKind kind → b ≡ numberOfMode mode
+    → c ≡ len / 256 % 256 → d ≡ len % 256 → set (set (set (set l 0 a) 1 b) 2 c) 3 d ≡ overlay l 0 (headOf kind mode len)
+head-put l kind mode len h e f g i = rw (e, f, g, i) (four l (numberOfKind kind) (numberOfMode mode) (len / 256 % 256) (len % 256) h)
+
+pub fed-refused : (r : Refusal) (taken : ℕ) {n : ℕ} → n ≡ numberOf r
+    → _≡_ {A = MfcFed} (record { refusal = n; «frame_length» = 0; taken = taken }) (fed (gave (refused (paper r))) taken)
+fed-refused r taken e = rw e

@@ -1,0 +1,134 @@
+-- The three calls of a receiver over lent bytes: each `return`. Assumes nothing.
+use mathlib.Core.Path.{_≡_, sym, ap, _∙_}
+use mathlib.Core.List.{List, [], _∷_, _++_}
+use mathlib.Core.Option.{Option}
+use Prim.Native.Nat.{ℕ, _+_, _≤_, _<_}
+use native.Mathlib.Omega.{arith}
+use borrow.Author.Tests.{lt-ltb, le-ltb, eq-eqb}
+use lib.ListN.{length, take, drop, replicate, length-take, length-drop, take-append-drop}
+use Rattle.refusal.specs.Refusals.{numberOf, paper, Answered, served, refused}
+use Rattle.refusal.specs.Room.{overlay}
+use Rattle.refusal.specs.declared.Refusal.{Refusal}
+use Rattle.refusal.specs.declared.Refusal.the-variants.{NoRoom, OutOfRange, BadRecord}
+use Rattle.refusal.proofs.Order.{refused-not-served}
+use Rattle.shdlc.specs.declared.Kind.{Kind}
+use Rattle.receiver.specs.declared.Receiver.{Receiver}
+use Rattle.receiver.specs.declared.Fed.{Fed}
+use Rattle.receiver.specs.declared.Quiet.{Quiet}
+use Rattle.receiver.specs.declared.Made.{Made}
+use Rattle.receiver.specs.declared.Made.the-variants as made
+use Rattle.receiver.specs.Record.{Record, held, fresh}
+use Rattle.receiver.specs.Calls.{gave, Outcome, paperAnswer, paperFed, paperQuiet, paperMade, freshOf, feedOf, silenceOf}
+use Rattle.mfc.specs.declared.answers.MfcFed.{MfcFed}
+use Rattle.mfc.specs.declared.receivers.KindAt.{KindAt}
+use Rattle.mfc.specs.declared.receivers.KindAt.the-variants as kinds
+use Rattle.mfc.specs.declared.receivers.Loaded.{Loaded}
+use Rattle.mfc.specs.declared.receivers.Loaded.the-variants as loaded
+use Rattle.mfc.specs.Receivers.{kindAt, headOf, bytesOf, storeIn, recordIn, paperKind, paperLoaded, fed, refusalIn, freshAs, freshRecord, fedBytes, feedAs, feedRecord, silenceAs, silenceRecord}
+
+-- the lent bytes with another store
+abbrev pub stored : List ℕ → List ℕ → List ℕ
+stored lent store = take 4 lent ++ (store ++ drop 260 (drop 4 lent))
+
+-- a store and then a head: the bytes of the whole record
+pub laid : (lent store : List ℕ) (a b c d : ℕ) → 264 ≤ length lent → length store ≡ 260
+    → overlay (stored lent store) 0 (a ∷ b ∷ c ∷ d ∷ []) ≡ overlay lent 0 (a ∷ b ∷ c ∷ d ∷ store)
+unfolding overlay
+laid [] store a b c d h e = absurd (omega arith)
+laid (x ∷ []) store a b c d h e = absurd (omega arith)
+laid (x ∷ y ∷ []) store a b c d h e = absurd (omega arith)
+laid (x ∷ y ∷ z ∷ []) store a b c d h e = absurd (omega arith)
+laid (x ∷ y ∷ z ∷ w ∷ rest) store a b c d h e =
+    let f : 0 + length (a ∷ b ∷ c ∷ d ∷ store) ≡ 264 = omega arith in
+    rw f
+
+pub store-size : (lent : List ℕ) → 264 ≤ length lent → length (storeIn lent) ≡ 260
+store-size lent h = simp (length-take, length-drop) (omega arith)
+
+-- the store as it was
+pub store-same : (lent : List ℕ) → stored lent (storeIn lent) ≡ lent
+store-same lent = rw (take-append-drop 260 (drop 4 lent), take-append-drop 4 lent)
+
+pub head-alone : (lent : List ℕ) (a b c d : ℕ) → 264 ≤ length lent
+    → overlay lent 0 (a ∷ b ∷ c ∷ d ∷ []) ≡ overlay lent 0 (a ∷ b ∷ c ∷ d ∷ storeIn lent)
+head-alone lent a b c d h =
+    ap (λ (l : List ℕ). overlay l 0 (a ∷ b ∷ c ∷ d ∷ [])) (sym (store-same lent)) ∙ laid lent (storeIn lent) a b c d h (store-size lent h)
+
+pub stored-long : (lent store : List ℕ) → 264 ≤ length lent → 4 ≤ length (stored lent store)
+stored-long [] store h = absurd (omega arith)
+stored-long (x ∷ []) store h = absurd (omega arith)
+stored-long (x ∷ y ∷ []) store h = absurd (omega arith)
+stored-long (x ∷ y ∷ z ∷ []) store h = absurd (omega arith)
+stored-long (x ∷ y ∷ z ∷ w ∷ rest) store h = omega arith
+
+module _ (lent : List ℕ) {l : Loaded} (e : paperLoaded l (storeIn lent) ≡ recordIn lent) where
+  -- what was loaded is what the bytes hold
+  holds : {is : Loaded} → l ≡ is → paperLoaded is (storeIn lent) ≡ recordIn lent
+  holds f = sym (ap (λ (x : Loaded). paperLoaded x (storeIn lent)) f) ∙ e
+
+  module _ (piece frame : List ℕ) where
+    pub feed-bad : {result : MfcFed} → l ≡ loaded.BadRecord → result ≡ fed (gave (refused (paper BadRecord))) 0
+        → (result, lent, frame) ≡ feedRecord lent piece frame
+    unfolding feedRecord
+    feed-bad is r =
+        ap (λ (x : MfcFed). (x, lent, frame)) r ∙ ap (λ (o : Option Record). feedAs o lent piece frame) (holds is)
+
+    pub feed-held : (f : Fed) {r : Receiver} {store after bytes : List ℕ} {result : MfcFed} → 264 ≤ length lent → l ≡ loaded.Held r
+        → length store ≡ length (storeIn lent)
+        → paperFed f store after ≡ feedOf (held r (storeIn lent)) piece frame
+        → bytes ≡ overlay (stored lent store) 0 (headOf (f .receiver .kind) (f .receiver .mode) (f .receiver .len))
+        → result ≡ fed (paperAnswer (f .answer)) (f .taken)
+        → (result, bytes, after) ≡ feedRecord lent piece frame
+    unfolding feedRecord
+    feed-held f {r} {store} {after} long is size g b w =
+        rw (w, b, laid lent store _ _ _ _ long (size ∙ store-size lent long))
+        (ap (λ (o : Outcome). fedBytes o lent) g ∙ ap (λ (o : Option Record). feedAs o lent piece frame) (holds is))
+
+  pub silence-bad : {result : ℕ} → l ≡ loaded.BadRecord → result ≡ numberOf BadRecord → (result, lent) ≡ silenceRecord lent
+  unfolding silenceRecord
+  silence-bad is r = ap (λ (x : ℕ). (x, lent)) r ∙ ap (λ (o : Option Record). silenceAs o lent) (holds is)
+
+  pub silence-held : (q : Quiet) {r : Receiver} {bytes : List ℕ} {result : ℕ} → 264 ≤ length lent → l ≡ loaded.Held r
+      → paperQuiet q (storeIn lent) ≡ silenceOf (held r (storeIn lent))
+      → bytes ≡ overlay lent 0 (headOf (q .receiver .kind) (q .receiver .mode) (q .receiver .len))
+      → result ≡ refusalIn (paperAnswer (q .answer))
+      → (result, bytes) ≡ silenceRecord lent
+  unfolding silenceRecord
+  silence-held q {r} long is g b w =
+      rw (w, b, head-alone lent _ _ _ _ long)
+      (ap (λ (o : Outcome). (refusalIn (o .result .said), overlay lent 0 (bytesOf (o .leaves)))) g
+      ∙ ap (λ (o : Option Record). silenceAs o lent) (holds is))
+
+-- a fresh record
+module _ (kind : ℕ) (lent : List ℕ) where
+  pub fresh-short : {result : ℕ} → length lent < 264 → result ≡ numberOf NoRoom → (result, lent) ≡ freshRecord kind lent
+  unfolding freshRecord
+  fresh-short h r = rw (lt-ltb (length lent) 264 h) (ap (λ (x : ℕ). (x, lent)) r)
+
+  module _ (long : 264 ≤ length lent) {k : KindAt} (e : paperKind k ≡ kindAt kind) where
+    as-kind : {is : KindAt} → k ≡ is → freshAs (paperKind is) lent ≡ freshRecord kind lent
+    unfolding freshRecord
+    as-kind f =
+        rw (le-ltb (length lent) 264 long) (ap (λ (o : Option Kind). freshAs o lent) (sym (ap paperKind f) ∙ e))
+
+    pub fresh-kind : {result : ℕ} → k ≡ kinds.Unknown → result ≡ numberOf OutOfRange → (result, lent) ≡ freshRecord kind lent
+    fresh-kind f r = ap (λ (x : ℕ). (x, lent)) r ∙ as-kind f
+
+    module _ {known : Kind} (is : k ≡ kinds.Known known) (m : Made) {store : List ℕ} (made-so : (paperMade m store, store) ≡ freshOf known (storeIn lent)) where
+      served-so : _≡_ {A = Answered Record × List ℕ} (paperMade m store, store) (served (fresh known), replicate 260 0)
+      unfolding freshOf
+      served-so = made-so ∙ rw (eq-eqb (length (storeIn lent)) 260 (store-size lent long))
+
+      pub fresh-made : {r : Receiver} {bytes : List ℕ} → m ≡ made.Fresh r
+          → bytes ≡ overlay (stored lent store) 0 (headOf (r .kind) (r .mode) (r .len)) → (0, bytes) ≡ freshRecord kind lent
+      fresh-made {r} {bytes} f b =
+          let size : length store ≡ 260 = ap (λ (o : Answered Record × List ℕ). length (o .1)) served-so in
+          let same : served (held r store) ≡ served (fresh known) = sym (ap (λ (x : Made). paperMade x store) f) ∙ ap (λ (o : Answered Record × List ℕ). o .0) served-so in
+          let is-it : held r store ≡ fresh known = cc in
+          let whole : bytes ≡ overlay lent 0 (bytesOf (held r store)) = b ∙ laid lent store _ _ _ _ long size in
+          rw whole
+          (_∙_ {b = freshAs (paperKind (kinds.Known known)) lent} (ap (λ (x : Record). (0, overlay lent 0 (bytesOf x))) is-it) (as-kind is))
+
+      pub fresh-never : {why : Refusal} → m ≡ made.Refused why → ⊥
+      fresh-never f =
+          refused-not-served (sym (ap (λ (x : Made). paperMade x store) f) ∙ ap (λ (o : Answered Record × List ℕ). o .0) served-so)

@@ -1,0 +1,43 @@
+-- `mfc::receivers::mfc_feed` meets its contract. Assumes nothing.
+use borrow.Author.Needs.{needs}
+use Prim.Native.Nat.{ℕ, _≤_}
+use mathlib.Core.List.{List}
+use lib.ListN.{length}
+use Rattle.mfc.proofs.Heads.{loaded-long}
+use Rattle.mfc.proofs.Lent.{feed-bad, feed-held, stored-long}
+use Rattle.mfc.proofs.receivers.mfc_feed.Statement.{statement}
+use Rattle.mfc.proofs.receivers.mfc_feed.Tie as tie
+
+abbrev lent : tie.After-known-told → List ℕ
+lent c = c .before .before .before .before .before .before .before .before .args .«record» .now
+
+long : (c : tie.After-known-told) → 264 ≤ length (lent c)
+long c = loaded-long _ (c .before .before .before .load .ensures) (c .before .r .given .1)
+
+pub mfc-feed-spec : {M : Type 1} → statement M
+mfc-feed-spec =
+    tie.close
+    (tie.spec
+    (λ c κs. search needs)
+    (λ c. search needs)
+    (λ c. search needs)
+    (λ c κs. search needs)
+    (λ c. search needs)
+    (λ c. feed-bad _ (c .before .before .before .load .ensures) _ _ (c .before .enum-told .given .1) (c .of-answer .ensures))
+    (λ c. search needs)
+    (λ c. search needs)
+    (λ c. long c)
+    (λ c κs. search needs)
+    (λ c κs.
+    let f = c .before .before .before .before .before .before in
+    let t = f .before .before .before in
+    stored-long (lent t) (f .feed .last .1 .0) (long t))
+    (λ c κs. search needs)
+    (λ c. search needs)
+    (λ c. search needs)
+    (λ c.
+    let p = c .before .before .before in
+    let f = p .before .before .before .before .before .before .before in
+    let t = f .before .before .before in
+    feed-held _ (t .before .before .before .load .ensures) _ _ (f .feed .result) (long t) (t .before .r .given .1) (f .feed .kept .1 .0)
+    (f .feed .ensures) (p .put-head .ensures) (c .of-answer2 .ensures)))

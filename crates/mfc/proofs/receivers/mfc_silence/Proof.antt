@@ -1,0 +1,36 @@
+-- `mfc::receivers::mfc_silence` meets its contract. Assumes nothing.
+use borrow.Author.Needs.{needs}
+use native.Mathlib.Omega.{arith}
+use Prim.Native.Nat.{_≤_}
+use lib.ListN.{length}
+use Rattle.mfc.proofs.Heads.{loaded-long}
+use Rattle.mfc.proofs.Lent.{silence-bad, silence-held}
+use Rattle.mfc.proofs.receivers.mfc_silence.Statement.{statement}
+use Rattle.mfc.proofs.receivers.mfc_silence.Tie as tie
+
+long : (c : tie.After-known-told) → 264 ≤ length (c .before .before .before .before .before .before .args .«record» .now)
+long c = loaded-long _ (c .before .before .before .load .ensures) (c .before .r .given .1)
+
+pub mfc-silence-spec : {M : Type 1} → statement M
+mfc-silence-spec =
+    tie.close
+    (tie.spec
+    (λ c κs. search needs)
+    (λ c. search needs)
+    (λ c. search needs)
+    (λ c κs. search needs)
+    (λ c. search needs)
+    (λ c. silence-bad _ (c .before .before .before .load .ensures) (c .before .enum-told .given .1) (c .number .ensures))
+    (λ c. search needs)
+    (λ c. search needs)
+    (λ c. long (c .before))
+    (λ c κs. search needs)
+    (λ c κs. omega (arith, long (c .before .before .before .before .before)))
+    (λ c κs. search needs)
+    (λ c. search needs)
+    (λ c.
+    let p = c .before .before .before in
+    let q = p .before .before .before in
+    let t = q .before .before .before in
+    silence-held _ (t .before .before .before .load .ensures) (q .silence .result) (long t) (t .before .r .given .1) (q .silence .ensures) (p .put-head .ensures)
+    (c .refusal-in .ensures)))

@@ -1,0 +1,6 @@
+-- What the C interface gives, out of the definitions of the crates under it.
+pub mod Answers
+pub mod Codes
+pub mod Requests
+pub mod Receivers
+pub mod Answering

@@ -1,0 +1,120 @@
+-- The C interface, a receiver: "The record crosses as the first 264 bytes of a lent slice: kind (0 request, 1 reply), mode (0 outside,
+-- 1 plain, 2 escaped, 3 and 4 the refusal found), length (high byte, low byte), store." What each of the three calls gives.
+use Prim.Native.Nat.{ℕ, zero, suc, _+_, _*_, _/_, _%_}
+use mathlib.Core.Bool.{cond}
+use mathlib.Core.List.{List, [], _∷_, _++_}
+use mathlib.Core.Option.{Option, none, some}
+use lib.Dec.{ltb}
+use lib.ListN.{length, getD, take, drop}
+use Rattle.refusal.specs.Refusals.{number, numberIn, served, refused}
+use Rattle.refusal.specs.Room.{overlay}
+use Rattle.shdlc.specs.declared.Kind.{Kind}
+use Rattle.shdlc.specs.declared.Kind.the-variants.{Request, Reply}
+use Rattle.receiver.specs.declared.Mode.{Mode}
+use Rattle.receiver.specs.declared.Mode.the-variants.{Outside, Plain, Escaped, BadEscape, BareControl}
+use Rattle.receiver.specs.Record.{Record, held, fresh}
+use Rattle.receiver.specs.Calls.{Said, nothing, gave, Outcome, feedOf, silenceOf}
+use Rattle.mfc.specs.declared.answers.MfcFed.{MfcFed}
+use Rattle.mfc.specs.declared.receivers.KindAt.{KindAt}
+use Rattle.mfc.specs.declared.receivers.KindAt.the-variants as kinds
+use Rattle.mfc.specs.declared.receivers.ModeAt.{ModeAt}
+use Rattle.mfc.specs.declared.receivers.ModeAt.the-variants as modes
+use Rattle.mfc.specs.declared.receivers.Loaded.{Loaded}
+use Rattle.mfc.specs.declared.receivers.Loaded.the-variants as loaded
+
+-- what stands at a place of a list, counted from 0
+abbrev pub nth : {A : Type 0} → List A → ℕ → Option A
+nth [] n = none
+nth (x ∷ xs) zero = some x
+nth (x ∷ xs) (suc n) = nth xs n
+
+-- "kind (0 request, 1 reply)"
+abbrev pub numberOfKind : Kind → ℕ
+numberOfKind Request = 0
+numberOfKind Reply = 1
+
+abbrev pub kindAt : ℕ → Option Kind
+kindAt n = nth (Request ∷ Reply ∷ []) n
+
+-- "mode (0 outside, 1 plain, 2 escaped, 3 and 4 the refusal found)"
+abbrev pub numberOfMode : Mode → ℕ
+numberOfMode Outside = 0
+numberOfMode Plain = 1
+numberOfMode Escaped = 2
+numberOfMode BadEscape = 3
+numberOfMode BareControl = 4
+
+abbrev pub modeAt : ℕ → Option Mode
+modeAt n = nth (Outside ∷ Plain ∷ Escaped ∷ BadEscape ∷ BareControl ∷ []) n
+
+-- a record's bytes: "kind, mode, length (high byte, low byte), store"
+abbrev pub headOf : Kind → Mode → ℕ → List ℕ
+headOf kind mode len = numberOfKind kind ∷ numberOfMode mode ∷ len / 256 % 256 ∷ len % 256 ∷ []
+
+abbrev pub bytesOf : Record → List ℕ
+bytesOf r = headOf (r .kind) (r .mode) (r .len) ++ r .store
+
+-- the record in lent bytes: none where there are too few, or where a number is that of no kind or mode
+abbrev pub storeIn : List ℕ → List ℕ
+storeIn lent = take 260 (drop 4 lent)
+
+abbrev pub recordOf : Option Kind → Option Mode → ℕ → List ℕ → Option Record
+recordOf none mode len store = none
+recordOf (some kind) none len store = none
+recordOf (some kind) (some mode) len store = some (record { kind = kind; mode = mode; len = len; store = store })
+
+unfoldable pub recordIn : List ℕ → Option Record
+recordIn lent =
+    cond (ltb (length lent) 264) none
+    (recordOf (kindAt (getD lent 0 0)) (modeAt (getD lent 1 0)) (getD lent 2 0 * 256 + getD lent 3 0) (storeIn lent))
+
+-- the enums of the code in these words
+abbrev pub paperKind : KindAt → Option Kind
+paperKind (kinds.Known kind) = some kind
+paperKind kinds.Unknown = none
+
+abbrev pub paperMode : ModeAt → Option Mode
+paperMode (modes.Known mode) = some mode
+paperMode modes.Unknown = none
+
+abbrev pub paperLoaded : Loaded → List ℕ → Option Record
+paperLoaded (loaded.Held r) store = some (held r store)
+paperLoaded loaded.BadRecord store = none
+
+-- what a call says: the refusal's number, 0 for none, the length of a frame's body, and the bytes taken
+abbrev pub fed : Said → ℕ → MfcFed
+fed nothing taken = record { refusal = 0; «frame_length» = 0; taken = taken }
+fed (gave (served n)) taken = record { refusal = 0; «frame_length» = n; taken = taken }
+fed (gave (refused n)) taken = record { refusal = numberIn n; «frame_length» = 0; taken = taken }
+
+abbrev pub refusalIn : Said → ℕ
+refusalIn nothing = 0
+refusalIn (gave (served n)) = 0
+refusalIn (gave (refused n)) = numberIn n
+
+-- "A slice under 264 bytes is refusal 1 for `fresh` [..] `fresh` of another kind is 12, after 1; it fills the store with zeros."
+abbrev pub freshAs : Option Kind → List ℕ → ℕ × List ℕ
+freshAs none lent = (12, lent)
+freshAs (some kind) lent = (0, overlay lent 0 (bytesOf (fresh kind)))
+
+unfoldable pub freshRecord : ℕ → List ℕ → ℕ × List ℕ
+freshRecord kind lent = cond (ltb (length lent) 264) (1, lent) (freshAs (kindAt kind) lent)
+
+-- "and 2 for the others; bytes past 264 are not touched": the answer, the lent record and the lent frame afterwards
+abbrev pub fedBytes : Outcome → List ℕ → MfcFed × List ℕ × List ℕ
+fedBytes o lent = (fed (o .result .said) (o .result .taken), overlay lent 0 (bytesOf (o .leaves)), o .result .buffer)
+
+abbrev pub feedAs : Option Record → List ℕ → List ℕ → List ℕ → MfcFed × List ℕ × List ℕ
+feedAs none lent piece frame = (fed (gave (refused (number 2))) 0, lent, frame)
+feedAs (some r) lent piece frame = fedBytes (feedOf r piece frame) lent
+
+unfoldable pub feedRecord : List ℕ → List ℕ → List ℕ → MfcFed × List ℕ × List ℕ
+feedRecord lent piece frame = feedAs (recordIn lent) lent piece frame
+
+-- a silence mark: the answer, and the lent record afterwards
+abbrev pub silenceAs : Option Record → List ℕ → ℕ × List ℕ
+silenceAs none lent = (2, lent)
+silenceAs (some r) lent = (refusalIn (silenceOf r .result .said), overlay lent 0 (bytesOf (silenceOf r .leaves)))
+
+unfoldable pub silenceRecord : List ℕ → ℕ × List ℕ
+silenceRecord lent = silenceAs (recordIn lent) lent

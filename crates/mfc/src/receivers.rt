@@ -1,0 +1,213 @@
+// A receiver whose record is the first 264 bytes of a lent slice.
+use crate::answers::MfcFed;
+use receiver::Answer;
+use receiver::Made;
+use receiver::Mode;
+use receiver::Receiver;
+use refusal::Refusal;
+use shdlc::Kind;
+ghost use mathlib.Core.Path.{_≡_};
+ghost use Prim.Native.Nat.{_+_, _*_, _/_, _%_, _≤_};
+ghost use lib.ListN.{length};
+ghost use Rattle.refusal.specs.Room.{overlay};
+ghost use Rattle.receiver.specs.Calls.{paperAnswer};
+ghost use Rattle.mfc.specs.Receivers.{numberOfKind, numberOfMode, kindAt, modeAt, paperKind, paperMode, paperLoaded, headOf, storeIn, recordIn, fed, refusalIn, freshRecord, feedRecord, silenceRecord};
+
+// A kind of frame, a mode and a record by their numbers.
+enum KindAt {
+    Known(Kind),
+    Unknown,
+}
+
+enum ModeAt {
+    Known(Mode),
+    Unknown,
+}
+
+enum Loaded {
+    Held(Receiver),
+    BadRecord,
+}
+
+fn kind_at(n: u8) -> KindAt
+    ensures { λ r. ⌜ paperKind r ≡ kindAt n ⌝ }
+{
+    match n {
+        0 => KindAt::Known(Kind::Request),
+        1 => KindAt::Known(Kind::Reply),
+        _ => KindAt::Unknown,
+    }
+}
+
+fn mode_at(n: u8) -> ModeAt
+    ensures { λ r. ⌜ paperMode r ≡ modeAt n ⌝ }
+{
+    match n {
+        0 => ModeAt::Known(Mode::Outside),
+        1 => ModeAt::Known(Mode::Plain),
+        2 => ModeAt::Known(Mode::Escaped),
+        3 => ModeAt::Known(Mode::BadEscape),
+        4 => ModeAt::Known(Mode::BareControl),
+        _ => ModeAt::Unknown,
+    }
+}
+
+fn kind_number(kind: Kind) -> u8
+    ensures { λ r. ⌜ r ≡ numberOfKind kind ⌝ }
+{
+    match kind {
+        Kind::Request => 0,
+        Kind::Reply => 1,
+    }
+}
+
+fn mode_number(mode: Mode) -> u8
+    ensures { λ r. ⌜ r ≡ numberOfMode mode ⌝ }
+{
+    match mode {
+        Mode::Outside => 0,
+        Mode::Plain => 1,
+        Mode::Escaped => 2,
+        Mode::BadEscape => 3,
+        Mode::BareControl => 4,
+    }
+}
+
+fn joined(high: u8, low: u8) -> usize
+    ensures { λ r. ⌜ r ≡ high * 256 + low ⌝ }
+{
+    (high as usize) * 256 + (low as usize)
+}
+
+fn high(n: usize) -> u8
+    ensures { λ r. ⌜ r ≡ n / 256 % 256 ⌝ }
+{
+    (n / 256 % 256) as u8
+}
+
+fn low(n: usize) -> u8
+    ensures { λ r. ⌜ r ≡ n % 256 ⌝ }
+{
+    (n % 256) as u8
+}
+
+// The record in the lent bytes, its store aside.
+fn load(lent: &[u8]) -> Loaded
+    ensures { λ r. ⌜ paperLoaded r (storeIn (now (lent .entry))) ≡ recordIn (now (lent .entry)) ⌝ }
+{
+    if lent.len() < 264 {
+        return Loaded::BadRecord;
+    }
+    let KindAt::Known(kind) = kind_at(lent[0]) else {
+        return Loaded::BadRecord;
+    };
+    let ModeAt::Known(mode) = mode_at(lent[1]) else {
+        return Loaded::BadRecord;
+    };
+    let len = joined(lent[2], lent[3]);
+    Loaded::Held(Receiver { kind, mode, len })
+}
+
+// Puts a record, its store aside, into the lent bytes.
+fn put_head(lent: &mut [u8], r: Receiver)
+    requires { ⌜ 4 ≤ length (now lent) ⌝ }
+    ensures { λ _. ⌜ now (lent .exit) ≡ overlay (now (lent .entry)) 0 (headOf (r .kind) (r .mode) (r .len)) ⌝ }
+{
+    let kind = r.kind;
+    let mode = r.mode;
+    let len = r.len;
+    lent[0] = kind_number(kind);
+    lent[1] = mode_number(mode);
+    lent[2] = high(len);
+    lent[3] = low(len);
+}
+
+fn of_answer(answer: Answer, taken: usize) -> MfcFed
+    ensures { λ w. ⌜ w ≡ fed (paperAnswer answer) taken ⌝ }
+{
+    match answer {
+        Answer::Nothing => MfcFed {
+            refusal: 0,
+            frame_length: 0,
+            taken: taken,
+        },
+        Answer::Frame(n) => MfcFed {
+            refusal: 0,
+            frame_length: n,
+            taken: taken,
+        },
+        Answer::Refused(why) => MfcFed {
+            refusal: refusal::number(why),
+            frame_length: 0,
+            taken: taken,
+        },
+    }
+}
+
+fn refusal_in(answer: Answer) -> u8
+    ensures { λ n. ⌜ n ≡ refusalIn (paperAnswer answer) ⌝ }
+{
+    match answer {
+        Answer::Nothing => 0,
+        Answer::Frame(_) => 0,
+        Answer::Refused(why) => refusal::number(why),
+    }
+}
+
+// Makes a fresh receiver of a kind, 0 for requests and 1 for replies, in the first 264 bytes of record. Answers the refusal's number, 0
+// for none. Refusals, in their order: 1 where size is under 264; 12 for another kind.
+#[no_mangle]
+pub extern "C" fn mfc_receiver_fresh(kind: u8, record: &mut [u8]) -> u8
+    ensures { λ r. ⌜ (r, now («record» .exit)) ≡ freshRecord kind (now («record» .entry)) ⌝ }
+{
+    if record.len() < 264 {
+        return refusal::number(Refusal::NoRoom);
+    }
+    let KindAt::Known(known) = kind_at(kind) else {
+        return refusal::number(Refusal::OutOfRange);
+    };
+    match receiver::fresh(known, &mut record[4..264]) {
+        Made::Fresh(r) => {
+            put_head(record, r);
+            0
+        }
+        Made::Refused(why) => refusal::number(why),
+    }
+}
+
+// Hands the n bytes of a piece to the receiver whose record is lent. It takes bytes up to and including the one that completes an item,
+// or all of them: hand in the rest again. A frame's unstuffed body stands at the start of frame; else frame is untouched. Refusals, in
+// their order: 2 where size is under 264 or a field of the record is out of its range; 1 where room is under 260, and nothing is taken;
+// else the refusal that a closed stretch of bytes is: 3 for a wrong escape, 4 for a bare 11 or 13 hex, then 5 to 8 of the body (too long,
+// too short, L wrong, checksum wrong).
+#[no_mangle]
+pub extern "C" fn mfc_feed(record: &mut [u8], piece: &[u8], frame: &mut [u8]) -> MfcFed
+    ensures { λ r. ⌜ (r, now («record» .exit), now (frame .exit)) ≡ feedRecord (now («record» .entry)) (now (piece .entry)) (now (frame .entry)) ⌝ }
+{
+    let Loaded::Held(r) = load(record) else {
+        return of_answer(Answer::Refused(Refusal::BadRecord), 0);
+    };
+    let f = receiver::feed(r, &mut record[4..264], piece, frame);
+    let next = f.receiver;
+    let taken = f.taken;
+    let answer = f.answer;
+    put_head(record, next);
+    of_answer(answer, taken)
+}
+
+// Tells the receiver whose record is lent of silence over 200 ms: what was begun is cut off, and bytes are noise until the next 7E.
+// Answers the refusal's number, 0 for none: 2 where size is under 264 or a field of the record is out of its range; 9 where bytes of a
+// frame were cut off.
+#[no_mangle]
+pub extern "C" fn mfc_silence(record: &mut [u8]) -> u8
+    ensures { λ r. ⌜ (r, now («record» .exit)) ≡ silenceRecord (now («record» .entry)) ⌝ }
+{
+    let Loaded::Held(r) = load(record) else {
+        return refusal::number(Refusal::BadRecord);
+    };
+    let q = receiver::silence(r, &record[4..264]);
+    let next = q.receiver;
+    let answer = q.answer;
+    put_head(record, next);
+    refusal_in(answer)
+}

@@ -1,0 +1,299 @@
+// Replies of the SFC6 family by their numbers, written and read.
+use crate::answers::MfcReply;
+use crate::answers::MfcWritten;
+use crate::answers::not_written;
+use crate::answers::of_written;
+use crate::requests::place;
+use crate::requests::wide;
+use refusal::Refusal;
+use replies::ReadReply;
+use replies::Reading;
+use replies::Reply;
+use sfc6::Request;
+use shdlc::Checked;
+ghost use mathlib.Core.Path.{_≡_};
+ghost use mathlib.Core.Bool.{cond};
+ghost use Prim.Native.Nat.{min};
+ghost use Rattle.refusal.specs.Refusals.{paper, refused};
+ghost use Rattle.replies.specs.Replies.{bitsOf, readingOf, replyTo, kindOf};
+ghost use Rattle.replies.specs.Paper.{paperRead};
+ghost use Rattle.mfc.specs.Answering.{replyAt, unsayable, refusalOf, valueOf, replyIn, writeAnswer, readAnswer};
+
+// The bits that a reading is sent by.
+fn bits(x: Reading) -> u32
+    ensures { λ r. ⌜ r ≡ bitsOf x ⌝ }
+{
+    match x {
+        Reading::Finite(v) => sfc6::bits_of(v),
+        Reading::Invalid => 0xFFFF_FFFF,
+        Reading::PlusInfinity => 0x7F80_0000,
+        Reading::MinusInfinity => 0xFF80_0000,
+    }
+}
+
+// The reading of its bits.
+fn reading_of(bits: u32) -> Reading
+    ensures { λ r. ⌜ r ≡ readingOf bits ⌝ }
+{
+    match bits {
+        0xFFFF_FFFF => Reading::Invalid,
+        0x7F80_0000 => Reading::PlusInfinity,
+        0xFF80_0000 => Reading::MinusInfinity,
+        _ => Reading::Finite(sfc6::float_of(bits)),
+    }
+}
+
+// A number as a u16 and as a byte; 255 is out of range where a reply carries a byte.
+fn as_u16(n: u32) -> u16
+    ensures { λ r. ⌜ r ≡ min n 65535 ⌝ }
+{
+    if n < 65535 { n as u16 } else { 65535 }
+}
+
+fn as_u8(n: u32) -> u8
+    ensures { λ r. ⌜ r ≡ min n 255 ⌝ }
+{
+    if n < 255 { n as u8 } else { 255 }
+}
+
+// The reply of its number, 0 to 15, and of its value.
+fn reply_of(number: u8, n: u32) -> Reply
+    ensures { λ r. ⌜ r ≡ replyAt number n ⌝ }
+{
+    match number {
+        0 => Reply::Acknowledged,
+        1 => Reply::Setpoint(reading_of(n)),
+        2 => Reply::MeasuredValue(reading_of(n)),
+        3 => Reply::Gain(reading_of(n)),
+        4 => Reply::InitStep(reading_of(n)),
+        5 => Reply::RawFlow(as_u16(n)),
+        6 => Reply::RawConductivity(as_u16(n)),
+        7 => Reply::Temperature(reading_of(n)),
+        8 => Reply::NumberOfCalibrations(n),
+        9 => Reply::Validity(as_u8(n)),
+        10 => Reply::FullScale(reading_of(n)),
+        11 => Reply::Calibration(n),
+        12 => Reply::Address(as_u8(n)),
+        13 => Reply::Baud(n),
+        14 => Reply::ProductType,
+        _ => Reply::DeviceError(as_u8(n)),
+    }
+}
+
+// The number of a reply.
+fn number_of(reply: Reply) -> u8
+    ensures { λ r. ⌜ r ≡ kindOf reply ⌝ }
+{
+    match reply {
+        Reply::Acknowledged => 0,
+        Reply::Setpoint(_) => 1,
+        Reply::MeasuredValue(_) => 2,
+        Reply::Gain(_) => 3,
+        Reply::InitStep(_) => 4,
+        Reply::RawFlow(_) => 5,
+        Reply::RawConductivity(_) => 6,
+        Reply::Temperature(_) => 7,
+        Reply::NumberOfCalibrations(_) => 8,
+        Reply::Validity(_) => 9,
+        Reply::FullScale(_) => 10,
+        Reply::Calibration(_) => 11,
+        Reply::Address(_) => 12,
+        Reply::Baud(_) => 13,
+        Reply::ProductType => 14,
+        Reply::DeviceError(_) => 15,
+    }
+}
+
+// The number of the reply that a request expects.
+fn expected(request: Request) -> u8
+    ensures { λ r. ⌜ r ≡ kindOf (replyTo request 0) ⌝ }
+{
+    match request {
+        Request::GetSetpoint => 1,
+        Request::SetSetpoint(_) => 0,
+        Request::MeasuredValue => 2,
+        Request::GetGain => 3,
+        Request::SetGain(_) => 0,
+        Request::GetInitStep => 4,
+        Request::SetInitStep(_) => 0,
+        Request::RawFlow => 5,
+        Request::RawConductivity => 6,
+        Request::Temperature => 7,
+        Request::NumberOfCalibrations => 8,
+        Request::Validity(_) => 9,
+        Request::FullScale => 10,
+        Request::GetCalibration => 11,
+        Request::SetCalibration(_) => 0,
+        Request::VolatileCalibration(_) => 0,
+        Request::GetAddress => 12,
+        Request::SetAddress(_) => 0,
+        Request::GetBaud => 13,
+        Request::SetBaud(_) => 0,
+        Request::ProductType => 14,
+    }
+}
+
+fn wide16(n: u16) -> u32
+    ensures { λ r. ⌜ r ≡ n ⌝ }
+{
+    n as u32
+}
+
+// The value that a reply carries, a float by its bits.
+fn value_of(reply: Reply) -> u32
+    ensures { λ r. ⌜ r ≡ valueOf reply ⌝ }
+{
+    match reply {
+        Reply::Acknowledged => 0,
+        Reply::Setpoint(x) => bits(x),
+        Reply::MeasuredValue(x) => bits(x),
+        Reply::Gain(x) => bits(x),
+        Reply::InitStep(x) => bits(x),
+        Reply::RawFlow(n) => wide16(n),
+        Reply::RawConductivity(n) => wide16(n),
+        Reply::Temperature(x) => bits(x),
+        Reply::NumberOfCalibrations(n) => n,
+        Reply::Validity(v) => wide(v),
+        Reply::FullScale(x) => bits(x),
+        Reply::Calibration(n) => n,
+        Reply::Address(a) => wide(a),
+        Reply::Baud(rate) => rate,
+        Reply::ProductType => 0,
+        Reply::DeviceError(code) => wide(code),
+    }
+}
+
+// Whether a number and a value are those of no reply.
+fn is_unsayable(number: u8, n: u32) -> bool
+    ensures { λ r. ⌜ r ≡ unsayable number n ⌝ }
+{
+    match number {
+        5 => 65535 < n,
+        6 => 65535 < n,
+        _ => 15 < number,
+    }
+}
+
+// Why such a reply is not written.
+fn refusal_of(address: u8, request: Request, number: u8) -> Refusal
+    ensures { λ r. ⌜ refused (paper r) ≡ refusalOf address request number ⌝ }
+{
+    if let Checked::Refused(r) = sfc6::check_request(address, request) {
+        return r;
+    }
+    if 15 < number {
+        return Refusal::ForeignReply;
+    }
+    if address == 255 {
+        return Refusal::ForeignReply;
+    }
+    if number != expected(request) {
+        return Refusal::ForeignReply;
+    }
+    Refusal::OutOfRange
+}
+
+// Writes the frame of the reply to a request. The n bytes of text are those of a product type; beside any other reply they are not looked
+// at. bit7 is bit 7 of the state: 0 for no, else yes. Refusals, in their order: 11 for a request over 20; 12, 13 and 10 of the request
+// itself, as of mfc_write_request; 14 for a request to 255, a reply over 15, or one that is neither expected nor a device error; 12 for a
+// raw flow or raw conductivity over 65,535, an address over 254, a validity over 1, a baud that is none of the five, an error code outside
+// 1 to 127, or a text that holds a 00 or is over 254 bytes; 13 for a float that is neither finite nor one of the three codings; 5 never;
+// 1 where the frame is longer than room.
+#[no_mangle]
+pub extern "C" fn mfc_write_reply(
+    address: u8,
+    request: u8,
+    value: u32,
+    reply: u8,
+    reply_value: u32,
+    text: &[u8],
+    bit7: u8,
+    out: &mut [u8],
+) -> MfcWritten
+    ensures { λ r. ⌜ (r, now (out .exit)) ≡ writeAnswer address request value reply «reply_value» (now (text .entry)) bit7 (now (out .entry)) ⌝ }
+{
+    if 20 < request {
+        return not_written(Refusal::UnknownCommand);
+    }
+    let asked = sfc6::request_of(place(request), value);
+    if is_unsayable(reply, reply_value) {
+        return not_written(refusal_of(address, asked, reply));
+    }
+    of_written(replies::write_reply(
+        address,
+        asked,
+        reply_of(reply, reply_value),
+        text,
+        bit7 != 0,
+        out,
+    ))
+}
+
+fn bit(set: bool) -> u8
+    ensures { λ r. ⌜ r ≡ cond set 1 0 ⌝ }
+{
+    if set { 1 } else { 0 }
+}
+
+fn not_read(r: Refusal) -> MfcReply
+    ensures { λ w. ⌜ w ≡ replyIn (paperRead (ReadReply.Refused r)) ⌝ }
+{
+    MfcReply {
+        refusal: refusal::number(r),
+        code: 0,
+        bit7: 0,
+        reply: 0,
+        value: 0,
+        text_start: 0,
+        text_length: 0,
+    }
+}
+
+fn of_read(r: ReadReply) -> MfcReply
+    ensures { λ w. ⌜ w ≡ replyIn (paperRead r) ⌝ }
+{
+    match r {
+        ReadReply::Value(reply, bit7) => MfcReply {
+            refusal: 0,
+            code: 0,
+            bit7: bit(bit7),
+            reply: number_of(reply),
+            value: value_of(reply),
+            text_start: 0,
+            text_length: 0,
+        },
+        ReadReply::Text(start, length, bit7) => MfcReply {
+            refusal: 0,
+            code: 0,
+            bit7: bit(bit7),
+            reply: 14,
+            value: 0,
+            text_start: start,
+            text_length: length,
+        },
+        ReadReply::Failed(code, bit7) => MfcReply {
+            refusal: 15,
+            code: code,
+            bit7: bit(bit7),
+            reply: 0,
+            value: 0,
+            text_start: 0,
+            text_length: 0,
+        },
+        ReadReply::Refused(why) => not_read(why),
+    }
+}
+
+// Reads the reply to a request from the n bytes of its unstuffed body, checksum included. Refusals, in their order: 11 for a request over
+// 20; 12, 13 and 10 of the request itself, as of mfc_write_request; 5 to 8 of the body (over 260 bytes, under 5, L wrong, checksum wrong);
+// 14 for a request to 255, another address or command, data beside an error code, or a data length not in the table; 15 for a device
+// error; 12 for a validity, an address or a baud out of range; 13 for a float that is neither finite nor one of the three codings.
+#[no_mangle]
+pub extern "C" fn mfc_read_reply(address: u8, request: u8, value: u32, body: &[u8]) -> MfcReply
+    ensures { λ r. ⌜ r ≡ readAnswer address request value (now (body .entry)) ⌝ }
+{
+    if 20 < request {
+        return not_read(Refusal::UnknownCommand);
+    }
+    of_read(replies::read_reply(address, sfc6::request_of(place(request), value), body))
+}
