@@ -58,7 +58,7 @@ writeSfc6Code code concentration room = writeAsked (sfc6For code concentration) 
 
 abbrev pub writeBytes : Option (List ℕ) → List ℕ → MfcWritten × List ℕ
 writeBytes none room = (written (refused (number 12)), room)
-writeBytes (some bytes) room = beside written (store bytes room)
+writeBytes (some bytes) room = beside written (emit bytes room)
 
 unfoldable pub writeLiquidCode : ℕ → ℕ → List ℕ → MfcWritten × List ℕ
 writeLiquidCode code value room = writeBytes (liquidFor code value) room
