@@ -1,0 +1,205 @@
+-- Reading a reply: each answer of the definition, from the tests that lead to it. Assumes nothing.
+use mathlib.Core.Path.{_≡_, refl, sym, ap, subst, _∙_}
+use mathlib.Core.Bool.{Bool, true, false, cond, not, _||_, _&&_}
+use mathlib.Core.List.{List, [], _∷_, _++_}
+use mathlib.Core.Option.{Option, none, some}
+use Prim.Native.Nat.{ℕ, _+_, _-_, _%_, min, _≤_, _<_}
+use native.Mathlib.Omega.{arith}
+use lib.Dec.{T, eqb, leb}
+use lib.ListN.{length, getD, take, drop}
+use borrow.Author.Tests.{eq-eqb, ne-eqb, eqb-true, not-false}
+use Rattle.refusal.specs.declared.Refusal.{Refusal}
+use Rattle.refusal.specs.Refusals.{Numbered, number, _carrying_, numberIn, Answered, served, refused, paper, inOrder}
+use Rattle.shdlc.specs.declared.Kind.the-variants as kind
+use Rattle.shdlc.specs.declared.Checked.{Checked}
+use Rattle.shdlc.specs.declared.Checked.the-variants as checked
+use Rattle.shdlc.specs.Body.{bodyChecks, checkBody}
+use Rattle.shdlc.specs.Paper.{paperChecked}
+use Rattle.shdlc.proofs.Body.{passes}
+use Rattle.payload.specs.Field.{big}
+use Rattle.sfc6.specs.declared.Request.{Request}
+use Rattle.sfc6.specs.declared.Request.the-variants as request
+use Rattle.sfc6.specs.declared.Row.{Row}
+use Rattle.sfc6.specs.declared.Answer.{Answer}
+use Rattle.sfc6.specs.declared.Answer.the-variants as answer
+use Rattle.sfc6.specs.Commands.{row}
+use Rattle.sfc6.specs.Requests.{requestChecks, checkRequest}
+use Rattle.sfc6.specs.Paper.{paperPassed}
+use Rattle.sfc6.proofs.Order.{never, first-refuses, then-more}
+use Rattle.replies.specs.declared.Reply.{Reply}
+use Rattle.replies.specs.declared.Content.{Content}
+use Rattle.replies.specs.declared.Content.the-variants as content
+use Rattle.replies.specs.Replies.{readingOf, replyTo, contentOf, outOfRange, badFloat}
+use Rattle.replies.specs.Reader.{codeIn, bit7In, lengthIn, dataIn, sizeOf, isSize, foreign, textIn, Got, value, text, gotBy, valueChecks, readChecks, answerTo, withBit7, readReply}
+
+-- what is carried by the reply of a number, by the form that the table says
+pub contentFrom : Answer → ℕ → Content
+contentFrom answer.Nothing n = content.Nothing
+contentFrom answer.Float n = content.Float (readingOf n)
+contentFrom answer.U16 n = content.U16 (min n 65535)
+contentFrom answer.U32 n = content.U32 n
+contentFrom answer.Validity n = content.Validity (min n 255)
+contentFrom answer.Address n = content.Address (min n 255)
+contentFrom answer.Baud n = content.Baud n
+contentFrom answer.Text n = content.Text
+
+pub content-from : (q : Request) (n : ℕ) → contentOf (replyTo q n) ≡ contentFrom (row q .answer) n
+unfolding row contentFrom
+content-from request.GetSetpoint n = refl
+content-from (request.SetSetpoint x) n = refl
+content-from request.MeasuredValue n = refl
+content-from request.GetGain n = refl
+content-from (request.SetGain x) n = refl
+content-from request.GetInitStep n = refl
+content-from (request.SetInitStep x) n = refl
+content-from request.RawFlow n = refl
+content-from request.RawConductivity n = refl
+content-from request.Temperature n = refl
+content-from request.NumberOfCalibrations n = refl
+content-from (request.Validity index) n = refl
+content-from request.FullScale n = refl
+content-from request.GetCalibration n = refl
+content-from (request.SetCalibration c) n = refl
+content-from (request.VolatileCalibration c) n = refl
+content-from request.GetAddress n = refl
+content-from (request.SetAddress a) n = refl
+content-from request.GetBaud n = refl
+content-from (request.SetBaud rate) n = refl
+content-from request.ProductType n = refl
+
+-- ---- the reply of a number
+abbrev pub ofNumber : Request → ℕ → Bool → Answered Got × Option Bool
+ofNumber q n bit7 = withBit7 (inOrder (valueChecks (replyTo q n)) (value (replyTo q n))) bit7
+
+module _ (q : Request) (n : ℕ) (bit7 : Bool) {r : Reply} (is : r ≡ replyTo q n) {c : Content} (carried : c ≡ contentOf r) {x : Bool} (range : x ≡ outOfRange c) where
+  pub number-12 : x ≡ true → (refused (number 12), none) ≡ ofNumber q n bit7
+  number-12 h = rw (← is, ← carried, ← range, h)
+
+  module _ (in-range : x ≡ false) {y : Bool} (float : y ≡ badFloat c) where
+    pub number-13 : y ≡ true → (refused (number 13), none) ≡ ofNumber q n bit7
+    number-13 h = rw (← is, ← carried, ← range, in-range, ← float, h)
+
+    pub number-read : y ≡ false → (served (value r), some bit7) ≡ ofNumber q n bit7
+    number-read h = rw (← is, ← carried, ← range, in-range, ← float, h)
+
+-- ---- the data, their length settled
+abbrev pub ofData : Request → Answer → List ℕ → Bool → Answered Got × Option Bool
+ofData q a body bit7 = withBit7 (inOrder (valueChecks (replyTo q (big (dataIn body)))) (gotBy (sizeOf a) q (dataIn body))) bit7
+
+module _ (body : List ℕ) {a known : Answer} (is : a ≡ known) where
+  -- the length is the table's
+  pub settled : (width : ℕ) → sizeOf known ≡ some width → isSize (sizeOf a) (length body - 5) ≡ true → length body - 5 ≡ width
+  settled width e h =
+      eqb-true _ _ (sym (ap (λ (s : Option ℕ). isSize s (length body - 5)) (ap sizeOf is ∙ e)) ∙ h)
+
+  pub number-from : (q : Request) (bit7 : Bool) (width : ℕ) → sizeOf known ≡ some width → isSize (sizeOf a) (length body - 5) ≡ true
+      → {n : ℕ} → n ≡ big (take width (drop 4 body)) → {o : Answered Got × Option Bool} → o ≡ ofNumber q n bit7 → o ≡ ofData q a body bit7
+  unfolding dataIn
+  number-from q bit7 width e h {n} f g =
+      let s : sizeOf a ≡ some width = ap sizeOf is ∙ e in
+      let d : n ≡ big (take (length body - 5) (drop 4 body)) = rw (settled width e h) f in
+      rw (s, ← d) g
+
+pub text-from : (q : Request) (a : Answer) (body : List ℕ) (bit7 : Bool) (n : ℕ) → a ≡ answer.Text → a ≡ row q .answer
+    → n ≡ length (textIn (take (length body - 1 - 4) (drop 4 body)))
+    → (served (text 4 n), some bit7) ≡ ofData q a body bit7
+unfolding dataIn contentFrom
+text-from q a body bit7 n is e f =
+    let m : length body - 1 - 4 ≡ length body - 5 = omega arith in
+    let c : contentOf (replyTo q (big (dataIn body))) ≡ content.Text = content-from q (big (dataIn body)) ∙ ap (λ (x : Answer). contentFrom x (big (dataIn body))) (sym e ∙ is) in
+    rw (c, is, f, m)
+
+-- ---- the whole
+-- no number of these checks is 15
+abbrev Not15 : List (Bool × Numbered) → Type 0
+Not15 [] = Unit {0}
+Not15 (check ∷ checks) = (eqb (numberIn (check .1)) 15 ≡ false) × Not15 checks
+
+not-15 : {A : Type 0} (checks : List (Bool × Numbered)) (a : A) {n : Numbered} → Not15 checks → inOrder checks a ≡ refused n → eqb (numberIn n) 15 ≡ false
+not-15 [] a h e = never e
+not-15 (check ∷ checks) a {n} h e = go (check .0) (not-15 checks a (h .1)) e
+  where
+    go : (t : Bool) → (inOrder checks a ≡ refused n → eqb (numberIn n) 15 ≡ false) → cond t (refused (check .1)) (inOrder checks a) ≡ refused n → eqb (numberIn n) 15 ≡ false
+    go true on e = let f : check .1 ≡ n = cc in subst (λ (m : Numbered). eqb (numberIn m) 15 ≡ false) f (h .0)
+    go false on e = on e
+
+last-false : (a b c d : Bool) → (a || b || c || d) ≡ false → d ≡ false
+last-false true b c d h = absurd (subst T h tt)
+last-false false true c d h = absurd (subst T h tt)
+last-false false false true d h = absurd (subst T h tt)
+last-false false false false d h = h
+
+-- what the last test of 14 says of a reply that belongs to its request
+lengths : (address : ℕ) (r : Row) (body : List ℕ) → foreign address r body ≡ false
+    → cond (eqb (codeIn body) 0) (not (isSize (sizeOf (r .answer)) (lengthIn body))) (not (eqb (lengthIn body) 0)) ≡ false
+unfolding foreign
+lengths address r body h = last-false (eqb address 255) (not (eqb (getD body 0 0) address)) (not (eqb (getD body 1 0) (r .command))) _ h
+
+abbrev got : Request → List ℕ → Got
+got q body = gotBy (sizeOf (row q .answer)) q (dataIn body)
+
+module _ (address : ℕ) (q : Request) (body : List ℕ) where
+  -- what is refused with another number than 15 comes without bit 7
+  bare : (n : Numbered) → eqb (numberIn n) 15 ≡ false → answerTo address q body ≡ refused n → (refused n, none) ≡ readReply address q body
+  unfolding readReply
+  bare n h e = rw (e, h)
+
+  module _ {c : Checked} (is : paperPassed (address, q) c ≡ checkRequest address q) where
+    pub request-refused : {why : Refusal} → c ≡ checked.Refused why → (refused (paper why), none) ≡ readReply address q body
+    unfolding checkRequest answerTo
+    request-refused {why} e =
+        let f = sym is ∙ ap (paperPassed (address, q)) e in
+        bare (paper why) (not-15 (requestChecks address q) (address, q) (refl, (refl, (refl, tt))) f)
+        (first-refuses (address, q) (got q body) (bodyChecks kind.Reply body ++ readChecks address q body) (requestChecks address q) f)
+
+    module _ (good : c ≡ checked.Good) where
+      past-request : answerTo address q body ≡ inOrder (bodyChecks kind.Reply body ++ readChecks address q body) (got q body)
+      unfolding checkRequest answerTo
+      past-request =
+          then-more (address, q) (got q body) (bodyChecks kind.Reply body ++ readChecks address q body) (requestChecks address q)
+          (sym is ∙ ap (paperPassed (address, q)) good)
+
+      module _ {d : Checked} (body-is : paperChecked body d ≡ checkBody kind.Reply body) where
+        pub body-refused : {why : Refusal} → d ≡ checked.Refused why → (refused (paper why), none) ≡ readReply address q body
+        unfolding checkBody
+        body-refused {why} e =
+            let f = sym body-is ∙ ap (paperChecked body) e in
+            bare (paper why) (not-15 (bodyChecks kind.Reply body) body (refl, (refl, (refl, (refl, tt)))) f)
+            (past-request ∙ first-refuses body (got q body) (readChecks address q body) (bodyChecks kind.Reply body) f)
+
+        module _ (good-body : d ≡ checked.Good) where
+          past-body : answerTo address q body ≡ inOrder (readChecks address q body) (got q body)
+          unfolding checkBody
+          past-body =
+              past-request
+              ∙ then-more body (got q body) (readChecks address q body) (bodyChecks kind.Reply body) (sym body-is ∙ ap (paperChecked body) good-body)
+
+          pub body-bounds : (5 ≤ length body) × (getD body 3 0 ≡ length body - 5)
+          body-bounds = let p = passes kind.Reply body (sym body-is ∙ ap (paperChecked body) good-body) in (p .least, p .length-right)
+
+          module _ {r : Row} (at-row : r ≡ row q) {x : Bool} (belongs : x ≡ foreign address r body) where
+            pub reply-14 : x ≡ true → (refused (number 14), none) ≡ readReply address q body
+            reply-14 h = bare (number 14) refl (past-body ∙ rw (← at-row, ← belongs, h))
+
+            module _ (own : x ≡ false) where
+              pub reply-15 : (codeIn body ≡ 0 → ⊥) → (refused (15 carrying codeIn body), some (bit7In body)) ≡ readReply address q body
+              unfolding readReply
+              reply-15 h =
+                  let k = lengths address r body (sym belongs ∙ own) in
+                  let l : eqb (lengthIn body) 0 ≡ true = not-false _ (rw (ne-eqb _ _ h) at k) in
+                  let e : answerTo address q body ≡ refused (15 carrying codeIn body) = past-body ∙ rw (← at-row, ← belongs, own, ne-eqb _ _ h, l) in
+                  rw e
+
+              module _ (no-error : codeIn body ≡ 0) where
+                pub size-settled : isSize (sizeOf (r .answer)) (length body - 5) ≡ true
+                size-settled =
+                    let k = lengths address r body (sym belongs ∙ own) in
+                    let l : isSize (sizeOf (r .answer)) (lengthIn body) ≡ true = not-false _ (rw (eq-eqb _ _ no-error) at k) in
+                    rw (body-bounds .1) at l
+
+                pub data-read : {o : Answered Got × Option Bool} → o ≡ ofData q (r .answer) body (bit7In body) → o ≡ readReply address q body
+                unfolding readReply
+                data-read f =
+                    let e : answerTo address q body ≡ inOrder (valueChecks (replyTo q (big (dataIn body)))) (gotBy (sizeOf (r .answer)) q (dataIn body)) =
+                    past-body ∙ rw (← at-row, ← belongs, own, eq-eqb _ _ no-error) in
+                    rw e f

@@ -1,0 +1,119 @@
+-- What a reply carries, where it is known not to be of one form. Assumes nothing.
+use mathlib.Core.Path.{_≡_, refl, sym, ap, subst, _∙_}
+use mathlib.Core.Bool.{Bool, true, false, cond, _||_}
+use mathlib.Core.List.{List, [], _∷_}
+use Prim.Native.Nat.{ℕ, _+_, _≤_, _<_}
+use native.Mathlib.Omega.{arith}
+use lib.Dec.{T, eqb, ltb}
+use lib.ListN.{length}
+use borrow.Author.Tests.{ltb-false, lt-ltb, le-ltb}
+use types.Run.{OneOf}
+use denote.Enum.Declared.{tagOf}
+use Rattle.refusal.specs.Room.{overlay}
+use Rattle.refusal.proofs.Room.{overlay-nothing}
+use Rattle.payload.specs.Field.{bigEndian}
+use Rattle.payload.proofs.Big.{length-big-endian}
+use Rattle.sfc6.specs.Commands.{member}
+use Rattle.replies.specs.declared.Reading.{Reading}
+use Rattle.replies.specs.declared.Reading.the-variants.{Finite, Invalid, PlusInfinity, MinusInfinity}
+use Rattle.replies.specs.declared.Content.{Content}
+use Rattle.replies.specs.declared.Content.the-variants.{Nothing, Float, U16, U32, Validity, Address, Baud, Text, Error}
+use Rattle.replies.specs.Replies.{outOfRange, notFinite, badFloat}
+use Rattle.replies.specs.Writer.{badText, dataOf, codeOf, stateOf}
+use Rattle.replies.specs.Reader.{textIn}
+use Rattle.replies.proofs.Reading as reading-type
+use Rattle.replies.proofs.Content as content-type
+use Rattle.replies.proofs.Apart.{apart, without}
+use Rattle.replies.proofs.Text.{holds-zero}
+
+abbrev pub forms : ℕ → List ℕ
+forms k = without k (0 ∷ 1 ∷ 2 ∷ 3 ∷ 4 ∷ 5 ∷ 6 ∷ 7 ∷ 8 ∷ [])
+
+pub a-coding : (x : Reading) → OneOf (1 ∷ 2 ∷ 3 ∷ []) (tagOf reading-type.the-type x) → false ≡ notFinite x
+a-coding (Finite x) o = absurd (apart (1 ∷ 2 ∷ 3 ∷ []) _ 0 o refl refl)
+a-coding Invalid o = refl
+a-coding PlusInfinity o = refl
+a-coding MinusInfinity o = refl
+
+pub no-float : (c : Content) → OneOf (forms 1) (tagOf content-type.the-type c) → false ≡ badFloat c
+no-float Nothing o = refl
+no-float (Float x) o = absurd (apart (forms 1) _ 1 o refl refl)
+no-float (U16 n) o = refl
+no-float (U32 n) o = refl
+no-float (Validity v) o = refl
+no-float (Address a) o = refl
+no-float (Baud rate) o = refl
+no-float Text o = refl
+no-float (Error code) o = refl
+
+pub no-text : (c : Content) (text : List ℕ) → OneOf (forms 7) (tagOf content-type.the-type c) → false ≡ badText c text
+no-text Nothing text o = refl
+no-text (Float x) text o = refl
+no-text (U16 n) text o = refl
+no-text (U32 n) text o = refl
+no-text (Validity v) text o = refl
+no-text (Address a) text o = refl
+no-text (Baud rate) text o = refl
+no-text Text text o = absurd (apart (forms 7) _ 7 o refl refl)
+no-text (Error code) text o = refl
+
+pub no-error : (c : Content) → OneOf (forms 8) (tagOf content-type.the-type c) → codeOf c ≡ 0
+no-error Nothing o = refl
+no-error (Float x) o = refl
+no-error (U16 n) o = refl
+no-error (U32 n) o = refl
+no-error (Validity v) o = refl
+no-error (Address a) o = refl
+no-error (Baud rate) o = refl
+no-error Text o = refl
+no-error (Error code) o = absurd (apart (forms 8) _ 8 o refl refl)
+
+pub or-false : (a b : Bool) → (a || b) ≡ false → (a ≡ false) × (b ≡ false)
+or-false true b h = absurd (subst T h tt)
+or-false false b h = (refl, h)
+
+-- the state without an error, and with one
+module _ (c : Content) (bit7 : Bool) {high : ℕ} (is : high ≡ cond bit7 0x80 0) where
+  pub plain-state : codeOf c ≡ 0 → high ≡ stateOf c bit7
+  plain-state e = rw (e, is) (omega arith)
+
+  pub error-state : (code : ℕ) → c ≡ Error code → code + high ≡ stateOf c bit7
+  error-state code e = rw (e, is)
+
+-- an error code in its range
+pub code-small : (c : Content) (code : ℕ) → c ≡ Error code → outOfRange c ≡ false → code ≤ 127
+code-small c code e h = ltb-false _ _ (or-false (eqb code 0) (ltb 127 code) (sym (ap outOfRange e) ∙ h) .1)
+
+-- a text in its range
+pub text-short : (c : Content) (text : List ℕ) → c ≡ Text → badText c text ≡ false → length text ≤ 254
+text-short c text e h =
+    ltb-false _ _ (or-false (ltb 254 (length text)) (member 0 text) (sym (ap (λ (x : Content). badText x text) e) ∙ h) .0)
+
+module _ (c : Content) (text : List ℕ) (is : c ≡ Text) where
+  pub text-long : 254 < length text → true ≡ badText c text
+  text-long h = rw is (simp (lt-ltb _ _ h))
+
+  pub text-held : {n : ℕ} → length text ≤ 254 → n ≡ length (textIn text) → ltb n (length text) ≡ badText c text
+  text-held h e = rw (is, e) (simp (le-ltb _ _ h) (holds-zero text))
+
+-- the data, where it is known what is carried
+module _ {c known : Content} (is : c ≡ known) (text : List ℕ) where
+  pub data-size : {n : ℕ} → length (dataOf known text) ≡ n → n ≡ length (dataOf c text)
+  data-size h = sym (ap (λ (x : Content). length (dataOf x text)) is ∙ h)
+
+  pub data-room : (place room : ℕ) → place + length (dataOf c text) ≤ room → place + length (dataOf known text) ≤ room
+  data-room place room h = subst (λ (x : Content). place + length (dataOf x text) ≤ room) is h
+
+  pub data-put : (bytes : List ℕ) (out w : List ℕ) (place end : ℕ) → bytes ≡ dataOf known text
+      → (end ≡ place + length bytes) × (w ≡ overlay out place bytes)
+      → (end ≡ place + length (dataOf c text)) × (w ≡ overlay out place (dataOf c text))
+  data-put bytes out w place end e g = rw (is, ← e) g
+
+  pub number-put : (count : ℕ) (out w : List ℕ) (place end b n : ℕ) → b ≡ n → bigEndian count n ≡ dataOf known text
+      → (end ≡ place + count) × (w ≡ overlay out place (bigEndian count b))
+      → (end ≡ place + length (dataOf c text)) × (w ≡ overlay out place (dataOf c text))
+  number-put count out w place end b n e f g = rw (is, ← f, length-big-endian count n, ← e) g
+
+  pub nothing-put : (out : List ℕ) (place : ℕ) → [] ≡ dataOf known text
+      → (place ≡ place + length (dataOf c text)) × (out ≡ overlay out place (dataOf c text))
+  nothing-put out place e = data-put [] out out place place e (omega arith, sym (overlay-nothing out place))

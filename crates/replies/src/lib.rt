@@ -1,0 +1,607 @@
+// Replies of the SFC6 family, written and read.
+use payload::Field;
+use payload::Placed;
+use payload::Width;
+use refusal::Refusal;
+use sfc6::Answer;
+use sfc6::Request;
+use sfc6::Row;
+use shdlc::Checked;
+use shdlc::Kind;
+use shdlc::Written;
+ghost use mathlib.Core.Path.{_≡_};
+ghost use mathlib.Core.Bool.{true, false, cond, not};
+ghost use mathlib.Core.List.{[], _∷_, _++_};
+ghost use Prim.Native.Nat.{_+_, _-_, _^_, _≤_, _<_, min};
+ghost use lib.Dec.{ltb};
+ghost use lib.ListN.{length, take, drop};
+ghost use Rattle.refusal.specs.Refusals.{number, inOrder};
+ghost use Rattle.refusal.specs.Room.{overlay};
+ghost use Rattle.shdlc.specs.Paper.{paperWritten};
+ghost use Rattle.payload.specs.Field.{big, bigEndian, bytesIn};
+ghost use Rattle.sfc6.specs.Commands.{row};
+ghost use Rattle.sfc6.specs.Requests.{lay};
+ghost use Rattle.replies.specs.Replies.{bitsOf, readingOf, replyTo, suits, contentOf, outOfRange, notFinite, badFloat};
+ghost use Rattle.replies.specs.Writer.{badText, dataOf, stateOf, frameFor, writeReply};
+ghost use Rattle.replies.specs.Reader.{dataIn, sizeOf, isSize, foreign, textIn, value, gotBy, valueChecks, withBit7, readReply};
+ghost use Rattle.replies.specs.Paper.{paperTaken, paperRead};
+
+// A float of a reply: a finite value, or one of three codings.
+pub enum Reading {
+    Finite(f32),
+    Invalid,
+    PlusInfinity,
+    MinusInfinity,
+}
+
+// A reply, with the value that it carries. Validity is 0 for no and 1 for yes. The text of a product type stands beside it.
+pub enum Reply {
+    Acknowledged,
+    Setpoint(Reading),
+    MeasuredValue(Reading),
+    Gain(Reading),
+    InitStep(Reading),
+    RawFlow(u16),
+    RawConductivity(u16),
+    Temperature(Reading),
+    NumberOfCalibrations(u32),
+    Validity(u8),
+    FullScale(Reading),
+    Calibration(u32),
+    Address(u8),
+    Baud(u32),
+    ProductType,
+    DeviceError(u8),
+}
+
+// What a reply carries, whichever request it answers.
+enum Content {
+    Nothing,
+    Float(Reading),
+    U16(u16),
+    U32(u32),
+    Validity(u8),
+    Address(u8),
+    Baud(u32),
+    Text,
+    Error(u8),
+}
+
+// A reply taken apart.
+enum Taken {
+    Carried(Content),
+    Refused(Refusal),
+}
+
+// What reading a reply answers. The bool is bit 7 of the state.
+pub enum ReadReply {
+    // A reply of the kind that the request expects.
+    Value(Reply, bool),
+    // A product type: where its text stands in the body, and how long it is.
+    Text(usize, usize, bool),
+    // 15, an execution error: its code, 1 to 127.
+    Failed(u8, bool),
+    Refused(Refusal),
+}
+
+// The bits that a reading is sent by.
+fn bits(x: Reading) -> u32
+    ensures { λ r. ⌜ r ≡ bitsOf x ⌝ }
+{
+    match x {
+        Reading::Finite(v) => sfc6::bits_of(v),
+        Reading::Invalid => 0xFFFF_FFFF,
+        Reading::PlusInfinity => 0x7F80_0000,
+        Reading::MinusInfinity => 0xFF80_0000,
+    }
+}
+
+// The reading of its bits.
+fn reading_of(bits: u32) -> Reading
+    ensures { λ r. ⌜ r ≡ readingOf bits ⌝ }
+{
+    match bits {
+        0xFFFF_FFFF => Reading::Invalid,
+        0x7F80_0000 => Reading::PlusInfinity,
+        0xFF80_0000 => Reading::MinusInfinity,
+        _ => Reading::Finite(sfc6::float_of(bits)),
+    }
+}
+
+fn cut_u16(n: u32) -> u16
+    ensures { λ r. ⌜ r ≡ min n 65535 ⌝ }
+{
+    if n < 65535 { n as u16 } else { 65535 }
+}
+
+fn cut_u8(n: u32) -> u8
+    ensures { λ r. ⌜ r ≡ min n 255 ⌝ }
+{
+    if n < 255 { n as u8 } else { 255 }
+}
+
+// The reply that answers a request, of the number that its data stand for.
+fn reply_to(request: Request, n: u32) -> Reply
+    ensures { λ r. ⌜ r ≡ replyTo request n ⌝ }
+{
+    match request {
+        Request::GetSetpoint => Reply::Setpoint(reading_of(n)),
+        Request::MeasuredValue => Reply::MeasuredValue(reading_of(n)),
+        Request::GetGain => Reply::Gain(reading_of(n)),
+        Request::GetInitStep => Reply::InitStep(reading_of(n)),
+        Request::RawFlow => Reply::RawFlow(cut_u16(n)),
+        Request::RawConductivity => Reply::RawConductivity(cut_u16(n)),
+        Request::Temperature => Reply::Temperature(reading_of(n)),
+        Request::NumberOfCalibrations => Reply::NumberOfCalibrations(n),
+        Request::Validity(_) => Reply::Validity(cut_u8(n)),
+        Request::FullScale => Reply::FullScale(reading_of(n)),
+        Request::GetCalibration => Reply::Calibration(n),
+        Request::GetAddress => Reply::Address(cut_u8(n)),
+        Request::GetBaud => Reply::Baud(n),
+        Request::ProductType => Reply::ProductType,
+        Request::SetSetpoint(_)
+        | Request::SetGain(_)
+        | Request::SetInitStep(_)
+        | Request::SetCalibration(_)
+        | Request::VolatileCalibration(_)
+        | Request::SetAddress(_)
+        | Request::SetBaud(_) => Reply::Acknowledged,
+    }
+}
+
+fn content_of(reply: Reply) -> Content
+    ensures { λ r. ⌜ r ≡ contentOf reply ⌝ }
+{
+    match reply {
+        Reply::Acknowledged => Content::Nothing,
+        Reply::Setpoint(x) => Content::Float(x),
+        Reply::MeasuredValue(x) => Content::Float(x),
+        Reply::Gain(x) => Content::Float(x),
+        Reply::InitStep(x) => Content::Float(x),
+        Reply::RawFlow(n) => Content::U16(n),
+        Reply::RawConductivity(n) => Content::U16(n),
+        Reply::Temperature(x) => Content::Float(x),
+        Reply::NumberOfCalibrations(n) => Content::U32(n),
+        Reply::Validity(v) => Content::Validity(v),
+        Reply::FullScale(x) => Content::Float(x),
+        Reply::Calibration(n) => Content::U32(n),
+        Reply::Address(a) => Content::Address(a),
+        Reply::Baud(rate) => Content::Baud(rate),
+        Reply::ProductType => Content::Text,
+        Reply::DeviceError(code) => Content::Error(code),
+    }
+}
+
+// 12: a value out of its range.
+fn out_of_range(content: Content) -> bool
+    ensures { λ r. ⌜ r ≡ outOfRange content ⌝ }
+{
+    match content {
+        Content::Nothing => false,
+        Content::Float(_) => false,
+        Content::U16(_) => false,
+        Content::U32(_) => false,
+        Content::Validity(v) => v > 1,
+        Content::Address(a) => a > 254,
+        Content::Baud(rate) => !sfc6::is_baud(rate),
+        Content::Text => false,
+        Content::Error(code) => code == 0 || code > 127,
+    }
+}
+
+fn not_finite(x: Reading) -> bool
+    ensures { λ r. ⌜ r ≡ notFinite x ⌝ }
+{
+    let Reading::Finite(v) = x else {
+        return false;
+    };
+    !sfc6::is_finite(sfc6::bits_of(v))
+}
+
+// 13: a carried float that is not finite.
+fn bad_float(content: Content) -> bool
+    ensures { λ r. ⌜ r ≡ badFloat content ⌝ }
+{
+    let Content::Float(x) = content else {
+        return false;
+    };
+    not_finite(x)
+}
+
+// How many bytes stand before the first 00, or how many there are.
+fn text_len(bytes: &[u8]) -> usize
+    ensures { λ r. ⌜ r ≡ length (textIn (now (bytes .entry))) ⌝ }
+{
+    let mut i: usize = 0;
+    while i < bytes.len() {
+        if bytes[i] == 0 {
+            return i;
+        }
+        i += 1;
+    }
+    i
+}
+
+// 12: a text that holds a 00 or is over 254 bytes.
+fn bad_text(content: Content, text: &[u8]) -> bool
+    ensures { λ r. ⌜ r ≡ badText content (now (text .entry)) ⌝ }
+{
+    let Content::Text = content else {
+        return false;
+    };
+    if text.len() > 254 {
+        return true;
+    }
+    text_len(text) < text.len()
+}
+
+// A reply of the kind that the request expects is taken apart, and an error answer always. Any other kind is 14.
+fn take(request: Request, reply: Reply) -> Taken
+    ensures { λ r. ⌜ paperTaken r ≡ inOrder ((not (suits request reply), number 14) ∷ []) (contentOf reply) ⌝ }
+{
+    if let Reply::DeviceError(code) = reply {
+        return Taken::Carried(Content::Error(code));
+    }
+    match request {
+        Request::GetSetpoint => {
+            let Reply::Setpoint(x) = reply else {
+                return Taken::Refused(Refusal::ForeignReply);
+            };
+            Taken::Carried(Content::Float(x))
+        }
+        Request::MeasuredValue => {
+            let Reply::MeasuredValue(x) = reply else {
+                return Taken::Refused(Refusal::ForeignReply);
+            };
+            Taken::Carried(Content::Float(x))
+        }
+        Request::GetGain => {
+            let Reply::Gain(x) = reply else {
+                return Taken::Refused(Refusal::ForeignReply);
+            };
+            Taken::Carried(Content::Float(x))
+        }
+        Request::GetInitStep => {
+            let Reply::InitStep(x) = reply else {
+                return Taken::Refused(Refusal::ForeignReply);
+            };
+            Taken::Carried(Content::Float(x))
+        }
+        Request::RawFlow => {
+            let Reply::RawFlow(n) = reply else {
+                return Taken::Refused(Refusal::ForeignReply);
+            };
+            Taken::Carried(Content::U16(n))
+        }
+        Request::RawConductivity => {
+            let Reply::RawConductivity(n) = reply else {
+                return Taken::Refused(Refusal::ForeignReply);
+            };
+            Taken::Carried(Content::U16(n))
+        }
+        Request::Temperature => {
+            let Reply::Temperature(x) = reply else {
+                return Taken::Refused(Refusal::ForeignReply);
+            };
+            Taken::Carried(Content::Float(x))
+        }
+        Request::NumberOfCalibrations => {
+            let Reply::NumberOfCalibrations(n) = reply else {
+                return Taken::Refused(Refusal::ForeignReply);
+            };
+            Taken::Carried(Content::U32(n))
+        }
+        Request::Validity(_) => {
+            let Reply::Validity(v) = reply else {
+                return Taken::Refused(Refusal::ForeignReply);
+            };
+            Taken::Carried(Content::Validity(v))
+        }
+        Request::FullScale => {
+            let Reply::FullScale(x) = reply else {
+                return Taken::Refused(Refusal::ForeignReply);
+            };
+            Taken::Carried(Content::Float(x))
+        }
+        Request::GetCalibration => {
+            let Reply::Calibration(n) = reply else {
+                return Taken::Refused(Refusal::ForeignReply);
+            };
+            Taken::Carried(Content::U32(n))
+        }
+        Request::GetAddress => {
+            let Reply::Address(a) = reply else {
+                return Taken::Refused(Refusal::ForeignReply);
+            };
+            Taken::Carried(Content::Address(a))
+        }
+        Request::GetBaud => {
+            let Reply::Baud(rate) = reply else {
+                return Taken::Refused(Refusal::ForeignReply);
+            };
+            Taken::Carried(Content::Baud(rate))
+        }
+        Request::ProductType => {
+            let Reply::ProductType = reply else {
+                return Taken::Refused(Refusal::ForeignReply);
+            };
+            Taken::Carried(Content::Text)
+        }
+        Request::SetSetpoint(_)
+        | Request::SetGain(_)
+        | Request::SetInitStep(_)
+        | Request::SetCalibration(_)
+        | Request::VolatileCalibration(_)
+        | Request::SetAddress(_)
+        | Request::SetBaud(_) => {
+            let Reply::Acknowledged = reply else {
+                return Taken::Refused(Refusal::ForeignReply);
+            };
+            Taken::Carried(Content::Nothing)
+        }
+    }
+}
+
+fn wide8(n: u8) -> u32
+    ensures { λ r. ⌜ (r ≡ n) × (r < 0x100) ⌝ }
+{
+    n as u32
+}
+
+fn wide16(n: u16) -> u32
+    ensures { λ r. ⌜ (r ≡ n) × (r < 0x10000) ⌝ }
+{
+    n as u32
+}
+
+// Writes the bytes from a place on, and answers the place after them.
+fn put_bytes(out: &mut [u8], place: usize, bytes: &[u8]) -> usize
+    requires { ⌜ place + length (now bytes) ≤ length (now out) ⌝ }
+    ensures { λ r. ⌜ (r ≡ place + length (now (bytes .entry))) × (now (out .exit) ≡ overlay (now (out .entry)) place (now (bytes .entry))) ⌝ }
+{
+    let mut o = place;
+    let mut i: usize = 0;
+    while i < bytes.len() {
+        out[o] = bytes[i];
+        o += 1;
+        i += 1;
+    }
+    o
+}
+
+// Writes a number, and answers the place after it.
+fn put_number(out: &mut [u8], place: usize, n: u32, width: Width) -> usize
+    requires { ⌜ (n < 256 ^ bytesIn width) × (place + bytesIn width ≤ length (now out)) ⌝ }
+    ensures { λ r. ⌜ (r ≡ place + bytesIn width) × (now (out .exit) ≡ overlay (now (out .entry)) place (bigEndian (bytesIn width) n)) ⌝ }
+{
+    match payload::put(out, place, n, width) {
+        Placed::Next(next) => next,
+        Placed::Refused(_) => place,
+    }
+}
+
+// Writes a text and the 00 at its end, and answers the place after them.
+fn put_text(out: &mut [u8], place: usize, text: &[u8]) -> usize
+    requires { ⌜ place + (length (now text) + 1) ≤ length (now out) ⌝ }
+    ensures { λ r. ⌜ (r ≡ place + (length (now (text .entry)) + 1)) × (now (out .exit) ≡ overlay (now (out .entry)) place (now (text .entry) ++ (0 ∷ []))) ⌝ }
+{
+    let end = put_bytes(out, place, text);
+    out[end] = 0;
+    end + 1
+}
+
+// How many bytes the data take.
+fn data_size(content: Content, text: &[u8]) -> usize
+    ensures { λ r. ⌜ r ≡ length (dataOf content (now (text .entry))) ⌝ }
+{
+    match content {
+        Content::Nothing => 0,
+        Content::Float(_) => 4,
+        Content::U16(_) => 2,
+        Content::U32(_) => 4,
+        Content::Validity(_) => 1,
+        Content::Address(_) => 1,
+        Content::Baud(_) => 4,
+        Content::Text => text.len() + 1,
+        Content::Error(_) => 0,
+    }
+}
+
+// Writes the data, and answers the place after them.
+fn put_data(out: &mut [u8], place: usize, content: Content, text: &[u8]) -> usize
+    requires { ⌜ place + length (dataOf content (now text)) ≤ length (now out) ⌝ }
+    ensures { λ r. ⌜ (r ≡ place + length (dataOf content (now (text .entry)))) × (now (out .exit) ≡ overlay (now (out .entry)) place (dataOf content (now (text .entry)))) ⌝ }
+{
+    match content {
+        Content::Nothing => place,
+        Content::Float(x) => put_number(out, place, bits(x), Width::Four),
+        Content::U16(n) => put_number(out, place, wide16(n), Width::Two),
+        Content::U32(n) => put_number(out, place, n, Width::Four),
+        Content::Validity(v) => put_number(out, place, wide8(v), Width::One),
+        Content::Address(a) => put_number(out, place, wide8(a), Width::One),
+        Content::Baud(rate) => put_number(out, place, rate, Width::Four),
+        Content::Text => put_text(out, place, text),
+        Content::Error(_) => place,
+    }
+}
+
+fn high(bit7: bool) -> u8
+    ensures { λ r. ⌜ (r ≡ cond bit7 0x80 0) × (r ≤ 128) ⌝ }
+{
+    if bit7 { 0x80 } else { 0 }
+}
+
+// The state: the error code in its low 7 bits, and bit 7.
+fn state_of(content: Content, bit7: bool) -> u8
+    requires { ⌜ outOfRange content ≡ false ⌝ }
+    ensures { λ r. ⌜ r ≡ stateOf content bit7 ⌝ }
+{
+    let Content::Error(code) = content else {
+        return high(bit7);
+    };
+    code + high(bit7)
+}
+
+// Writes the frame of what a reply carries: 5 and 1.
+fn write_content(
+    address: u8,
+    command: u8,
+    content: Content,
+    text: &[u8],
+    bit7: bool,
+    out: &mut [u8],
+) -> Written
+    requires { ⌜ (outOfRange content ≡ false) × (badText content (now text) ≡ false) ⌝ }
+    ensures { λ r. ⌜ (paperWritten r, now (out .exit)) ≡ lay (inOrder ((ltb 255 (length (dataOf content (now (text .entry)))), number 5) ∷ []) (frameFor address command content (now (text .entry)) bit7)) (now (out .entry)) ⌝ }
+{
+    let size = data_size(content, text);
+    if 255 < size {
+        return Written::Refused(Refusal::BodyTooLong);
+    }
+    let head = [address, command, state_of(content, bit7), size as u8];
+    let mut body = [0u8; 259];
+    let place = put_bytes(&mut body, 0, &head);
+    let end = put_data(&mut body, place, content, text);
+    shdlc::write_frame(&body[..end], out)
+}
+
+// Writes the frame of the reply to a request at the start of the lent room. The text is that of a product type; beside any other
+// reply it is not looked at. `bit7` is bit 7 of the state.
+pub fn write_reply(
+    address: u8,
+    request: Request,
+    reply: Reply,
+    text: &[u8],
+    bit7: bool,
+    out: &mut [u8],
+) -> Written
+    ensures { λ r. ⌜ (paperWritten r, now (out .exit)) ≡ writeReply address request reply (now (text .entry)) bit7 (now (out .entry)) ⌝ }
+{
+    if let Checked::Refused(r) = sfc6::check_request(address, request) {
+        return Written::Refused(r);
+    }
+    if address == 255 {
+        return Written::Refused(Refusal::ForeignReply);
+    }
+    let Taken::Carried(content) = take(request, reply) else {
+        return Written::Refused(Refusal::ForeignReply);
+    };
+    if out_of_range(content) {
+        return Written::Refused(Refusal::OutOfRange);
+    }
+    if bad_text(content, text) {
+        return Written::Refused(Refusal::OutOfRange);
+    }
+    if bad_float(content) {
+        return Written::Refused(Refusal::BadFloat);
+    }
+    let row = sfc6::row_of(request);
+    write_content(address, row.command, content, text, bit7, out)
+}
+
+// Whether the data of a reply may be so long.
+fn is_size(answer: Answer, n: u8) -> bool
+    ensures { λ r. ⌜ r ≡ isSize (sizeOf answer) n ⌝ }
+{
+    match answer {
+        Answer::Nothing => n == 0,
+        Answer::Float => n == 4,
+        Answer::U16 => n == 2,
+        Answer::U32 => n == 4,
+        Answer::Validity => n == 1,
+        Answer::Address => n == 1,
+        Answer::Baud => n == 4,
+        Answer::Text => true,
+    }
+}
+
+// 14: the reply does not belong to the request.
+fn is_foreign(address: u8, row: Row, body: &[u8]) -> bool
+    requires { ⌜ 5 ≤ length (now body) ⌝ }
+    ensures { λ r. ⌜ r ≡ foreign address row (now (body .entry)) ⌝ }
+{
+    if address == 255 {
+        return true;
+    }
+    if body[0] != address {
+        return true;
+    }
+    if body[1] != row.command {
+        return true;
+    }
+    if body[2] % 128 != 0 {
+        return body[3] != 0;
+    }
+    let answer = row.answer;
+    !is_size(answer, body[3])
+}
+
+// The number that the data start with.
+fn number_in(body: &[u8], width: Width) -> u32
+    requires { ⌜ 4 + bytesIn width ≤ length (now body) ⌝ }
+    ensures { λ r. ⌜ r ≡ big (take (bytesIn width) (drop 4 (now (body .entry)))) ⌝ }
+{
+    match payload::number_at(body, 4, width) {
+        Field::Value(n, _) => n,
+        Field::Refused(_) => 0,
+    }
+}
+
+// The reply of a number, or 12, 13.
+fn read_number(request: Request, n: u32, bit7: bool) -> ReadReply
+    ensures { λ r. ⌜ paperRead r ≡ withBit7 (inOrder (valueChecks (replyTo request n)) (value (replyTo request n))) bit7 ⌝ }
+{
+    let reply = reply_to(request, n);
+    let content = content_of(reply);
+    if out_of_range(content) {
+        return ReadReply::Refused(Refusal::OutOfRange);
+    }
+    if bad_float(content) {
+        return ReadReply::Refused(Refusal::BadFloat);
+    }
+    ReadReply::Value(reply, bit7)
+}
+
+// What the data of a reply stand for, once their length is settled.
+fn read_data(request: Request, answer: Answer, body: &[u8], bit7: bool) -> ReadReply
+    requires { ⌜ (answer ≡ row request .answer) × (isSize (sizeOf answer) (length (now body) - 5) ≡ true) × (5 ≤ length (now body)) ⌝ }
+    ensures { λ r. ⌜ paperRead r ≡ withBit7 (inOrder (valueChecks (replyTo request (big (dataIn (now (body .entry)))))) (gotBy (sizeOf answer) request (dataIn (now (body .entry))))) bit7 ⌝ }
+{
+    match answer {
+        Answer::Nothing => read_number(request, 0, bit7),
+        Answer::Float => read_number(request, number_in(body, Width::Four), bit7),
+        Answer::U16 => read_number(request, number_in(body, Width::Two), bit7),
+        Answer::U32 => read_number(request, number_in(body, Width::Four), bit7),
+        Answer::Validity => read_number(request, number_in(body, Width::One), bit7),
+        Answer::Address => read_number(request, number_in(body, Width::One), bit7),
+        Answer::Baud => read_number(request, number_in(body, Width::Four), bit7),
+        Answer::Text => {
+            let end = body.len() - 1;
+            ReadReply::Text(4, text_len(&body[4..end]), bit7)
+        }
+    }
+}
+
+// Reads the unstuffed body of the reply to a request, checksum included.
+pub fn read_reply(address: u8, request: Request, body: &[u8]) -> ReadReply
+    ensures { λ r. ⌜ paperRead r ≡ readReply address request (now (body .entry)) ⌝ }
+{
+    if let Checked::Refused(r) = sfc6::check_request(address, request) {
+        return ReadReply::Refused(r);
+    }
+    if let Checked::Refused(r) = shdlc::check_body(Kind::Reply, body) {
+        return ReadReply::Refused(r);
+    }
+    let row = sfc6::row_of(request);
+    if is_foreign(address, row, body) {
+        return ReadReply::Refused(Refusal::ForeignReply);
+    }
+    let state = body[2];
+    let bit7 = 0x80 <= state;
+    let code = state % 128;
+    if code != 0 {
+        return ReadReply::Failed(code, bit7);
+    }
+    let answer = row.answer;
+    read_data(request, answer, body, bit7)
+}
