@@ -33,7 +33,7 @@ use Rattle.replies.specs.Replies.{readingOf, replyTo, contentOf, outOfRa
 use Rattle.replies.specs.Reader.{codeIn, bit7In, lengthIn, dataIn, sizeOf, isSize, foreign, textIn, Got, value, text, gotBy, valueChecks, readChecks, answerTo, withBit7, readReply}
 
 -- what is carried by the reply of a number, by the form that the table says
-pub contentFrom : Answer → ℕ → Content
+unfoldable pub contentFrom : Answer → ℕ → Content
 contentFrom answer.Nothing n = content.Nothing
 contentFrom answer.Float n = content.Float (readingOf n)
 contentFrom answer.U16 n = content.U16 (min n 65535)
@@ -110,17 +110,18 @@ text-from q a body bit7 n is e f =
     rw (c, is, f, m)
 
 -- ---- the whole
--- no number of these checks is 15
-abbrev Not15 : List (Bool × Numbered) → Type 0
-Not15 [] = Unit {0}
-Not15 (check ∷ checks) = (eqb (numberIn (check .1)) 15 ≡ false) × Not15 checks
+-- no number of these checks is k
+abbrev pub Without : ℕ → List (Bool × Numbered) → Type 0
+Without k [] = Unit {0}
+Without k (check ∷ checks) = (eqb (numberIn (check .1)) k ≡ false) × Without k checks
 
-not-15 : {A : Type 0} (checks : List (Bool × Numbered)) (a : A) {n : Numbered} → Not15 checks → inOrder checks a ≡ refused n → eqb (numberIn n) 15 ≡ false
-not-15 [] a h e = never e
-not-15 (check ∷ checks) a {n} h e = go (check .0) (not-15 checks a (h .1)) e
+pub not-number : {A : Type 0} (k : ℕ) (checks : List (Bool × Numbered)) (a : A) {n : Numbered} → Without k checks → inOrder checks a ≡ refused n
+    → eqb (numberIn n) k ≡ false
+not-number k [] a h e = never e
+not-number k (check ∷ checks) a {n} h e = go (check .0) (not-number k checks a (h .1)) e
   where
-    go : (t : Bool) → (inOrder checks a ≡ refused n → eqb (numberIn n) 15 ≡ false) → cond t (refused (check .1)) (inOrder checks a) ≡ refused n → eqb (numberIn n) 15 ≡ false
-    go true on e = let f : check .1 ≡ n = cc in subst (λ (m : Numbered). eqb (numberIn m) 15 ≡ false) f (h .0)
+    go : (t : Bool) → (inOrder checks a ≡ refused n → eqb (numberIn n) k ≡ false) → cond t (refused (check .1)) (inOrder checks a) ≡ refused n → eqb (numberIn n) k ≡ false
+    go true on e = let f : check .1 ≡ n = cc in subst (λ (m : Numbered). eqb (numberIn m) k ≡ false) f (h .0)
     go false on e = on e
 
 last-false : (a b c d : Bool) → (a || b || c || d) ≡ false → d ≡ false
@@ -130,12 +131,12 @@ last-false false false true d h = absurd (subst T h tt)
 last-false false false false d h = h
 
 -- what the last test of 14 says of a reply that belongs to its request
-lengths : (address : ℕ) (r : Row) (body : List ℕ) → foreign address r body ≡ false
+pub lengths : (address : ℕ) (r : Row) (body : List ℕ) → foreign address r body ≡ false
     → cond (eqb (codeIn body) 0) (not (isSize (sizeOf (r .answer)) (lengthIn body))) (not (eqb (lengthIn body) 0)) ≡ false
 unfolding foreign
 lengths address r body h = last-false (eqb address 255) (not (eqb (getD body 0 0) address)) (not (eqb (getD body 1 0) (r .command))) _ h
 
-abbrev got : Request → List ℕ → Got
+abbrev pub got : Request → List ℕ → Got
 got q body = gotBy (sizeOf (row q .answer)) q (dataIn body)
 
 module _ (address : ℕ) (q : Request) (body : List ℕ) where
@@ -149,7 +150,7 @@ module _ (address : ℕ) (q : Request) (body : List ℕ) where
     unfolding checkRequest answerTo
     request-refused {why} e =
         let f = sym is ∙ ap (paperPassed (address, q)) e in
-        bare (paper why) (not-15 (requestChecks address q) (address, q) (refl, (refl, (refl, tt))) f)
+        bare (paper why) (not-number 15 (requestChecks address q) (address, q) (refl, (refl, (refl, tt))) f)
         (first-refuses (address, q) (got q body) (bodyChecks kind.Reply body ++ readChecks address q body) (requestChecks address q) f)
 
     module _ (good : c ≡ checked.Good) where
@@ -164,7 +165,7 @@ module _ (address : ℕ) (q : Request) (body : List ℕ) where
         unfolding checkBody
         body-refused {why} e =
             let f = sym body-is ∙ ap (paperChecked body) e in
-            bare (paper why) (not-15 (bodyChecks kind.Reply body) body (refl, (refl, (refl, (refl, tt)))) f)
+            bare (paper why) (not-number 15 (bodyChecks kind.Reply body) body (refl, (refl, (refl, (refl, tt)))) f)
             (past-request ∙ first-refuses body (got q body) (readChecks address q body) (bodyChecks kind.Reply body) f)
 
         module _ (good-body : d ≡ checked.Good) where

@@ -8,7 +8,7 @@ use lib.ListN.{length, getD, take, drop, set, length-append}
 use lib.Seq.{take-append-seam}
 use Rattle.refusal.specs.Room.{overlay}
 use Rattle.refusal.proofs.Room.{overlay-nothing, overlay-then, length-overlay, set-overlay}
-use Rattle.shdlc.proofs.Rest.{rest-here, rest-end}
+use Rattle.refusal.proofs.Rest.{rest-here, rest-end}
 
 -- a loop that stores the bytes of a list
 pub byte-laid : (out bytes : List ℕ) (o i : ℕ) → i < length bytes → o < length out

@@ -7,3 +7,7 @@ pub mod Laid
 pub mod Belongs
 pub mod Writing
 pub mod Answers
+pub mod Kept
+pub mod Written
+pub mod Rewritten
+pub mod ReadBack

@@ -3,3 +3,4 @@ pub mod Replies
 pub mod Writer
 pub mod Reader
 pub mod Paper
+pub mod ReadBack

@@ -1,0 +1,240 @@
+-- A reply is kept by its data: written and read it is the same, and read and written the data are. Assumes nothing.
+use mathlib.Core.Path.{_≡_, refl, sym, ap, subst, _∙_}
+use mathlib.Core.Bool.{Bool, true, false, cond, not, _||_}
+use mathlib.Core.List.{List, [], _∷_, _++_}
+use mathlib.Core.Option.{Option, none, some}
+use Prim.Native.Nat.{ℕ, _+_, _/_, _%_, _^_, min, _≤_, _<_}
+use native.Mathlib.Omega.{arith}
+use lib.Dec.{T, eqb, ltb}
+use lib.ListN.{length, getD}
+use lib.Ieee.{Float, nan, inf, fin, binary32, fits, isNan, toBits, ofBits}
+use lib.Ieee.Bits.{ofBits-toBits, toBits-lt, toBits-ofBits}
+use borrow.Author.Tests.{eq-eqb, ne-eqb, eqb-true, not-false}
+use Rattle.refusal.specs.Refusals.{served}
+use Rattle.payload.specs.Field.{big, bigEndian, Bytes}
+use Rattle.payload.proofs.Big.{big-of-big-endian, big-lt, big-endian-of-big, length-big-endian}
+use Rattle.sfc6.specs.declared.Request.{Request}
+use Rattle.sfc6.specs.declared.Request.the-variants as request
+use Rattle.sfc6.specs.declared.Answer.{Answer}
+use Rattle.sfc6.specs.declared.Answer.the-variants as answer
+use Rattle.sfc6.specs.Commands.{row, finite, member}
+use Rattle.replies.specs.declared.Reading.{Reading}
+use Rattle.replies.specs.declared.Reading.the-variants.{Finite, Invalid, PlusInfinity, MinusInfinity}
+use Rattle.replies.specs.declared.Reply.{Reply}
+use Rattle.replies.specs.declared.Reply.the-variants.{Acknowledged, Setpoint, MeasuredValue, Gain, InitStep, RawFlow, RawConductivity, Temperature, NumberOfCalibrations, Validity, FullScale, Calibration, Address, Baud, ProductType, DeviceError}
+use Rattle.replies.specs.declared.Content.{Content}
+use Rattle.replies.specs.Replies.{bitsOf, readingOf, replyTo, kindOf, contentOf, notFinite, badFloat}
+use Rattle.replies.specs.Writer.{badText, dataOf, codeOf}
+use Rattle.replies.specs.Reader.{sizeOf, isSize, textIn, Got, value, text, gotBy}
+use Rattle.replies.specs.ReadBack.{FitsReading, Fits, comesBack}
+use Rattle.replies.proofs.Carried.{or-false}
+use Rattle.replies.proofs.Text.{text-kept}
+use Rattle.replies.proofs.Answers.{contentFrom}
+
+-- ---- readings
+no-coding : (b k : ℕ) → finite b ≡ true → finite k ≡ false → b ≡ k → ⊥
+no-coding b k f g e = subst T (sym f ∙ ap finite e ∙ g) tt
+
+coding-back : (x : Reading) → FitsReading x → notFinite x ≡ false → readingOf (bitsOf x) ≡ x
+coding-back (Finite x) h g =
+    let f = not-false (finite (toBits binary32 x)) g in
+    simp (
+      ne-eqb _ _ (no-coding (toBits binary32 x) 0xFFFFFFFF f refl),
+      ne-eqb _ _ (no-coding (toBits binary32 x) 0x7F800000 f refl),
+      ne-eqb _ _ (no-coding (toBits binary32 x) 0xFF800000 f refl),
+    )
+    (ap Finite (ofBits-toBits binary32 x h))
+coding-back Invalid h g = refl
+coding-back PlusInfinity h g = refl
+coding-back MinusInfinity h g = refl
+
+bits-small : (x : Reading) → FitsReading x → bitsOf x < 2 ^ 32
+bits-small (Finite x) h = toBits-lt binary32 x h
+bits-small Invalid h = omega arith
+bits-small PlusInfinity h = omega arith
+bits-small MinusInfinity h = omega arith
+
+reading-back : (x : Reading) → FitsReading x → notFinite x ≡ false → readingOf (big (bigEndian 4 (bitsOf x))) ≡ x
+reading-back x h g = rw (big-of-big-endian 4 (bitsOf x) (bits-small x h)) (coding-back x h g)
+
+-- the other way: a pattern that is read comes back
+not-nan : (x : Float) → not (finite (toBits binary32 x)) ≡ false → T (not (isNan x))
+unfolding isNan toBits
+not-nan nan h = absurd (let z : _≡_ {A = ℕ} 0 1 = cc in omega arith)
+not-nan (inf s) h = tt
+not-nan (fin s m e) h = tt
+
+pub pattern-back : (n : ℕ) → n < 2 ^ 32 → notFinite (readingOf n) ≡ false → bitsOf (readingOf n) ≡ n
+pattern-back n h = go (eqb n 0xFFFFFFFF) (eqb n 0x7F800000) (eqb n 0xFF800000) refl refl refl
+  where
+    go : (x y z : Bool) → eqb n 0xFFFFFFFF ≡ x → eqb n 0x7F800000 ≡ y → eqb n 0xFF800000 ≡ z
+        → notFinite (cond x Invalid (cond y PlusInfinity (cond z MinusInfinity (Finite (ofBits binary32 n))))) ≡ false
+        → bitsOf (cond x Invalid (cond y PlusInfinity (cond z MinusInfinity (Finite (ofBits binary32 n))))) ≡ n
+    go true y z p q r g = sym (eqb-true n 0xFFFFFFFF p)
+    go false true z p q r g = sym (eqb-true n 0x7F800000 q)
+    go false false true p q r g = sym (eqb-true n 0xFF800000 r)
+    go false false false p q r g = toBits-ofBits binary32 n h (not-nan (ofBits binary32 n) g)
+
+-- ---- the replies by the number of their kind: one table between requests and replies
+abbrev replyAt : ℕ → ℕ → Reply
+replyAt k =
+    getD
+    ((λ n. Acknowledged)
+    ∷ (λ n. Setpoint (readingOf n))
+    ∷ (λ n. MeasuredValue (readingOf n))
+    ∷ (λ n. Gain (readingOf n))
+    ∷ (λ n. InitStep (readingOf n))
+    ∷ (λ n. RawFlow (min n 65535))
+    ∷ (λ n. RawConductivity (min n 65535))
+    ∷ (λ n. Temperature (readingOf n))
+    ∷ NumberOfCalibrations
+    ∷ (λ n. Validity (min n 255))
+    ∷ (λ n. FullScale (readingOf n))
+    ∷ Calibration
+    ∷ (λ n. Address (min n 255))
+    ∷ Baud
+    ∷ [])
+    k (λ n. ProductType)
+
+abbrev answerAt : ℕ → Answer
+answerAt k =
+    getD
+    (answer.Nothing ∷ answer.Float ∷ answer.Float ∷ answer.Float ∷ answer.Float ∷ answer.U16 ∷ answer.U16 ∷ answer.Float ∷ answer.U32
+    ∷ answer.Validity ∷ answer.Float ∷ answer.U32 ∷ answer.Address ∷ answer.Baud ∷ [])
+    k answer.Text
+
+record Tabled (q : Request) (n : ℕ) : Type 0 where
+  reply : replyTo q n ≡ replyAt (kindOf (replyTo q 0)) n
+  form : row q .answer ≡ answerAt (kindOf (replyTo q 0))
+  kind : kindOf (replyTo q n) ≡ kindOf (replyTo q 0)
+
+tabled : (q : Request) (n : ℕ) → Tabled q n
+unfolding row
+tabled request.GetSetpoint n = record { reply = refl; form = refl; kind = refl }
+tabled (request.SetSetpoint x) n = record { reply = refl; form = refl; kind = refl }
+tabled request.MeasuredValue n = record { reply = refl; form = refl; kind = refl }
+tabled request.GetGain n = record { reply = refl; form = refl; kind = refl }
+tabled (request.SetGain x) n = record { reply = refl; form = refl; kind = refl }
+tabled request.GetInitStep n = record { reply = refl; form = refl; kind = refl }
+tabled (request.SetInitStep x) n = record { reply = refl; form = refl; kind = refl }
+tabled request.RawFlow n = record { reply = refl; form = refl; kind = refl }
+tabled request.RawConductivity n = record { reply = refl; form = refl; kind = refl }
+tabled request.Temperature n = record { reply = refl; form = refl; kind = refl }
+tabled request.NumberOfCalibrations n = record { reply = refl; form = refl; kind = refl }
+tabled (request.Validity index) n = record { reply = refl; form = refl; kind = refl }
+tabled request.FullScale n = record { reply = refl; form = refl; kind = refl }
+tabled request.GetCalibration n = record { reply = refl; form = refl; kind = refl }
+tabled (request.SetCalibration c) n = record { reply = refl; form = refl; kind = refl }
+tabled (request.VolatileCalibration c) n = record { reply = refl; form = refl; kind = refl }
+tabled request.GetAddress n = record { reply = refl; form = refl; kind = refl }
+tabled (request.SetAddress a) n = record { reply = refl; form = refl; kind = refl }
+tabled request.GetBaud n = record { reply = refl; form = refl; kind = refl }
+tabled (request.SetBaud rate) n = record { reply = refl; form = refl; kind = refl }
+tabled request.ProductType n = record { reply = refl; form = refl; kind = refl }
+
+pub same-kind-of-reply : (q : Request) (n : ℕ) → kindOf (replyTo q n) ≡ kindOf (replyTo q 0)
+same-kind-of-reply q n = tabled q n .kind
+
+-- ---- a reply that is written and read
+-- what its data are read as
+pub record Back (q : Request) (r : Reply) (words : List ℕ) : Type 0 where
+  pub same : replyTo q (big (dataOf (contentOf r) words)) ≡ r
+  pub size : isSize (sizeOf (row q .answer)) (length (dataOf (contentOf r) words)) ≡ true
+  pub got : served (gotBy (sizeOf (row q .answer)) q (dataOf (contentOf r) words)) ≡ comesBack r words (contentOf r)
+
+number-back : (q : Request) (r : Reply) (words : List ℕ) (k : ℕ) → kindOf (replyTo q 0) ≡ k → (width : ℕ) → sizeOf (answerAt k) ≡ some width
+    → length (dataOf (contentOf r) words) ≡ width → replyAt k (big (dataOf (contentOf r) words)) ≡ r
+    → comesBack r words (contentOf r) ≡ served (value r) → Back q r words
+number-back q r words k e width f g h i =
+    let d = dataOf (contentOf r) words in
+    let t = tabled q (big d) in
+    let same : replyTo q (big d) ≡ r = t .reply ∙ ap (λ (j : ℕ). replyAt j (big d)) e ∙ h in
+    let form : sizeOf (row q .answer) ≡ some width = ap sizeOf (t .form ∙ ap answerAt e) ∙ f in
+    record {
+      same = same;
+      size = ap (λ (s : Option ℕ). isSize s (length d)) form ∙ eq-eqb (length d) width g;
+      got = ap (λ (s : Option ℕ). served (gotBy s q d)) form ∙ ap (λ (x : Reply). served (value x)) same ∙ sym i;
+    }
+
+u8-back : (n : ℕ) → n < 2 ^ 8 → min (big (bigEndian 1 n)) 255 ≡ n
+u8-back n h = rw (big-of-big-endian 1 n h) (omega arith)
+
+u16-back : (n : ℕ) → n < 2 ^ 16 → min (big (bigEndian 2 n)) 65535 ≡ n
+u16-back n h = rw (big-of-big-endian 2 n h) (omega arith)
+
+pub back : (q : Request) (r : Reply) (words : List ℕ) → Fits (contentOf r) → badFloat (contentOf r) ≡ false → badText (contentOf r) words ≡ false
+    → (kindOf r ≡ 15 → ⊥) → kindOf (replyTo q 0) ≡ kindOf r → Back q r words
+unfolding big bigEndian
+back q Acknowledged words h f t n e = number-back q Acknowledged words 0 e 0 refl refl refl refl
+back q (Setpoint x) words h f t n e = number-back q (Setpoint x) words 1 e 4 refl refl (ap Setpoint (reading-back x h f)) refl
+back q (MeasuredValue x) words h f t n e = number-back q (MeasuredValue x) words 2 e 4 refl refl (ap MeasuredValue (reading-back x h f)) refl
+back q (Gain x) words h f t n e = number-back q (Gain x) words 3 e 4 refl refl (ap Gain (reading-back x h f)) refl
+back q (InitStep x) words h f t n e = number-back q (InitStep x) words 4 e 4 refl refl (ap InitStep (reading-back x h f)) refl
+back q (RawFlow n) words h f t m e = number-back q (RawFlow n) words 5 e 2 refl refl (ap RawFlow (u16-back n h)) refl
+back q (RawConductivity n) words h f t m e = number-back q (RawConductivity n) words 6 e 2 refl refl (ap RawConductivity (u16-back n h)) refl
+back q (Temperature x) words h f t n e = number-back q (Temperature x) words 7 e 4 refl refl (ap Temperature (reading-back x h f)) refl
+back q (NumberOfCalibrations n) words h f t m e = number-back q (NumberOfCalibrations n) words 8 e 4 refl refl (ap NumberOfCalibrations (big-of-big-endian 4 n h)) refl
+back q (Validity n) words h f t m e = number-back q (Validity n) words 9 e 1 refl refl (ap Validity (u8-back n h)) refl
+back q (FullScale x) words h f t n e = number-back q (FullScale x) words 10 e 4 refl refl (ap FullScale (reading-back x h f)) refl
+back q (Calibration n) words h f t m e = number-back q (Calibration n) words 11 e 4 refl refl (ap Calibration (big-of-big-endian 4 n h)) refl
+back q (Address n) words h f t m e = number-back q (Address n) words 12 e 1 refl refl (ap Address (u8-back n h)) refl
+back q (Baud n) words h f t m e = number-back q (Baud n) words 13 e 4 refl refl (ap Baud (big-of-big-endian 4 n h)) refl
+back q ProductType words h f t n e =
+    let d = words ++ (0 ∷ []) in
+    let b = tabled q (big d) in
+    let form : sizeOf (row q .answer) ≡ none = ap sizeOf (b .form ∙ ap answerAt e) in
+    let kept = text-kept words (or-false (ltb 254 (length words)) (member 0 words) t .1) in
+    record {
+      same = b .reply ∙ ap (λ (j : ℕ). replyAt j (big d)) e;
+      size = ap (λ (s : Option ℕ). isSize s (length d)) form;
+      got = ap (λ (s : Option ℕ). served (gotBy s q d)) form ∙ ap (λ (l : List ℕ). served (text 4 (length l))) kept;
+    }
+back q (DeviceError code) words h f t n e = absurd (n refl)
+
+-- ---- data that are read and written
+pub record Again (a : Answer) (payload words : List ℕ) : Type 0 where
+  pub same : dataOf (contentFrom a (big payload)) words ≡ payload
+  pub free : badText (contentFrom a (big payload)) words ≡ false
+  pub no-code : codeOf (contentFrom a (big payload)) ≡ 0
+
+pub empty : (l : List ℕ) → length l ≡ 0 → [] ≡ l
+empty [] h = refl
+empty (x ∷ l) h = absurd (omega arith)
+
+-- the bytes of the number that they stand for
+bytes-again : (payload : List ℕ) (width n : ℕ) → Bytes payload → length payload ≡ width → n ≡ big payload → bigEndian width n ≡ payload
+bytes-again payload width n b e f = rw (f, ← e) (big-endian-of-big payload b)
+
+small : (payload : List ℕ) (width : ℕ) → Bytes payload → length payload ≡ width → big payload < 256 ^ width
+small payload width b e = subst (λ (w : ℕ). big payload < 256 ^ w) e (big-lt payload b)
+
+pub again : (a : Answer) (payload words : List ℕ) (width : ℕ) → Bytes payload → sizeOf a ≡ some width → length payload ≡ width
+    → badFloat (contentFrom a (big payload)) ≡ false → Again a payload words
+unfolding contentFrom
+again answer.Nothing payload words width b s e f = let w : 0 ≡ width = cc in record { same = empty payload (omega arith); free = refl; no-code = refl }
+again answer.Float payload words width b s e f =
+    let w : 4 ≡ width = cc in
+    let l : length payload ≡ 4 = omega arith in
+    record { same = bytes-again payload 4 _ b l (pattern-back (big payload) (small payload 4 b l) f); free = refl; no-code = refl }
+again answer.U16 payload words width b s e f =
+    let w : 2 ≡ width = cc in
+    let l : length payload ≡ 2 = omega arith in
+    let m : big payload < 65536 = small payload 2 b l in
+    record { same = bytes-again payload 2 _ b l (omega arith); free = refl; no-code = refl }
+again answer.U32 payload words width b s e f =
+    let w : 4 ≡ width = cc in
+    record { same = bytes-again payload 4 _ b (omega arith) refl; free = refl; no-code = refl }
+again answer.Validity payload words width b s e f =
+    let w : 1 ≡ width = cc in
+    let l : length payload ≡ 1 = omega arith in
+    let m : big payload < 256 = small payload 1 b l in
+    record { same = bytes-again payload 1 _ b l (omega arith); free = refl; no-code = refl }
+again answer.Address payload words width b s e f =
+    let w : 1 ≡ width = cc in
+    let l : length payload ≡ 1 = omega arith in
+    let m : big payload < 256 = small payload 1 b l in
+    record { same = bytes-again payload 1 _ b l (omega arith); free = refl; no-code = refl }
+again answer.Baud payload words width b s e f =
+    let w : 4 ≡ width = cc in
+    record { same = bytes-again payload 4 _ b (omega arith) refl; free = refl; no-code = refl }
+again answer.Text payload words width b s e f = absurd (let z : _≡_ {A = ℕ} 0 1 = cc in omega arith)

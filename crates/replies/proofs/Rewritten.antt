@@ -1,0 +1,419 @@
+-- A body that is read and written again. Assumes nothing.
+use mathlib.Core.Path.{_≡_, refl, sym, ap, subst, _∙_}
+use mathlib.Core.Logic.{⊎-elim}
+use mathlib.Core.Bool.{Bool, true, false, cond, not, _||_, _&&_}
+use mathlib.Core.List.{List, [], _∷_, _++_}
+use mathlib.Core.Option.{Option, none, some}
+use Prim.Native.Nat.{ℕ, zero, suc, _+_, _-_, _%_, _≤_, _<_}
+use native.Mathlib.Omega.{arith}
+use lib.Dec.{T, eqb, ltb, leb}
+use lib.ListN.{length, getD, take, drop, length-append, length-take, length-drop}
+use lib.Seq.{getD-drop, take-take}
+use borrow.Author.Tests.{lt-ltb, le-ltb, leb-true, leb-false, eq-eqb, eqb-true, eqb-false, ltb-false, not-false, not-true}
+use Rattle.refusal.specs.Refusals.{Numbered, number, _carrying_, numberIn, Answered, served, refused, inOrder}
+use Rattle.refusal.specs.Room.{overlay, emit}
+use Rattle.refusal.proofs.Order.{passed}
+use Rattle.shdlc.specs.declared.Kind.the-variants as kind
+use Rattle.shdlc.specs.Stuffing.{stuff}
+use Rattle.shdlc.specs.Body.{bodyChecks, checkBody}
+use Rattle.shdlc.specs.Frame.{withChecksum, frameOf}
+use Rattle.shdlc.proofs.Body.{Passes, passes, checked-body}
+use Rattle.payload.specs.Field.{big, bigEndian, Bytes}
+use Rattle.sfc6.specs.declared.Request.{Request}
+use Rattle.sfc6.specs.declared.Request.the-variants as request
+use Rattle.sfc6.specs.declared.Row.{Row}
+use Rattle.sfc6.specs.Commands.{row, member}
+use Rattle.sfc6.specs.Requests.{requestChecks, checkRequest, lay}
+use Rattle.sfc6.proofs.Order.{never, first-refuses, then-more, passes-or-refuses}
+use Rattle.replies.specs.declared.Reply.{Reply}
+use Rattle.replies.specs.declared.Reply.the-variants.{ProductType, DeviceError}
+use Rattle.replies.specs.declared.Content.{Content}
+use Rattle.replies.specs.declared.Content.the-variants.{Nothing, Float, U16, U32, Validity, Address, Baud, Text, Error}
+use Rattle.replies.specs.Replies.{replyTo, kindOf, suits, contentOf, outOfRange, badFloat}
+use Rattle.replies.specs.Writer.{badText, dataOf, codeOf, stateOf, bodyOf, frameFor, writeChecks, frameToWrite, writeReply}
+use Rattle.replies.specs.Reader.{codeIn, bit7In, lengthIn, dataIn, sizeOf, isSize, foreign, textIn, Got, value, text, gotBy, valueChecks, readChecks, answerTo, reported, withBit7, readReply}
+use Rattle.replies.specs.ReadBack.{wire}
+use Rattle.replies.proofs.Carried.{or-false}
+use Rattle.replies.proofs.Taking.{same-kind}
+use Rattle.replies.proofs.Text.{text-clean, text-first, text-no-longer}
+use Rattle.replies.proofs.Writing.{frame}
+use Rattle.replies.proofs.Answers.{contentFrom, content-from, Without, not-number, got, lengths}
+use Rattle.replies.proofs.Kept.{same-kind-of-reply, empty, Again, again}
+use Rattle.replies.proofs.Written.{Accepted, to-write}
+
+nothing-said : {A : Type 0} {b : Bool} → none ≡ some b → A
+nothing-said h = absurd (let z : _≡_ {A = ℕ} 0 1 = cc in omega arith)
+
+wrong : {A : Type 0} → true ≡ false → A
+wrong h = absurd (subst T h tt)
+
+-- ---- what is read with bit 7 beside it
+said-bit7 : (a : Answered Got) (t b : Bool) → reported a t ≡ some b → t ≡ b
+said-bit7 (served g) t b h = cc
+said-bit7 (refused n) t b h = go (eqb (numberIn n) 15) h
+  where
+    go : (x : Bool) → cond x (some t) none ≡ some b → t ≡ b
+    go true h = cc
+    go false h = nothing-said h
+
+-- checks without the number 15 passed
+past : {A : Type 0} (checks more : List (Bool × Numbered)) (a : A) (g : Got) (t b : Bool) → Without 15 checks
+    → reported (inOrder (checks ++ more) g) t ≡ some b → inOrder checks a ≡ served a
+past checks more a g t b w h =
+    ⊎-elim (λ e. e)
+    (λ e.
+    let n = e .0 in
+    let not-it = not-number 15 checks a w (e .1) in
+    let f : reported (refused n) t ≡ some b = ap (λ (x : Answered Got). reported x t) (sym (first-refuses a g more checks (e .1))) ∙ h in
+    nothing-said (rw not-it at f))
+    (passes-or-refuses checks a)
+
+past-14 : (x : Bool) (rest : Answered Got) (t b : Bool) → reported (cond x (refused (number 14)) rest) t ≡ some b → x ≡ false
+past-14 true rest t b h = nothing-said h
+past-14 false rest t b h = refl
+
+-- what such a body shows
+pub record Parts (address : ℕ) (q : Request) (body : List ℕ) (answer : Answered Got) (bit7 : Bool) : Type 0 where
+  pub request-good : checkRequest address q ≡ served (address, q)
+  pub checked : checkBody kind.Reply body ≡ served body
+  pub own : foreign address (row q) body ≡ false
+  pub flag : bit7In body ≡ bit7
+  pub rest : cond (not (eqb (codeIn body) 0) && eqb (lengthIn body) 0) (refused (15 carrying codeIn body))
+      (inOrder (valueChecks (replyTo q (big (dataIn body)))) (got q body))
+      ≡ answer
+
+pub parts : (address : ℕ) (q : Request) (body : List ℕ) (answer : Answered Got) (bit7 : Bool) → readReply address q body ≡ (answer, some bit7)
+    → Parts address q body answer bit7
+unfolding readReply answerTo checkRequest checkBody
+parts address q body answer bit7 h =
+    let g = got q body in
+    let t = bit7In body in
+    let all = answerTo address q body in
+    let e : all ≡ answer = ap (λ (o : Answered Got × Option Bool). o .0) h in
+    let f : reported all t ≡ some bit7 = ap (λ (o : Answered Got × Option Bool). o .1) h in
+    let more = bodyChecks kind.Reply body ++ readChecks address q body in
+    let r = past {A = ℕ × Request} (requestChecks address q) more (address, q) g t bit7 (refl, (refl, (refl, tt))) f in
+    let one : all ≡ inOrder more g = then-more {A = ℕ × Request} (address, q) g more (requestChecks address q) r in
+    let f₁ : reported (inOrder more g) t ≡ some bit7 = ap (λ (x : Answered Got). reported x t) (sym one) ∙ f in
+    let c = past (bodyChecks kind.Reply body) (readChecks address q body) body g t bit7 (refl, (refl, (refl, (refl, tt)))) f₁ in
+    let two : inOrder more g ≡ inOrder (readChecks address q body) g = then-more body g (readChecks address q body) (bodyChecks kind.Reply body) c in
+    let f₂ : reported (inOrder (readChecks address q body) g) t ≡ some bit7 = ap (λ (x : Answered Got). reported x t) (sym two) ∙ f₁ in
+    let o = past-14 (foreign address (row q) body) _ t bit7 f₂ in
+    let three : inOrder (readChecks address q body) g
+    ≡ cond (not (eqb (codeIn body) 0) && eqb (lengthIn body) 0) (refused (15 carrying codeIn body)) (inOrder (valueChecks (replyTo q (big (dataIn body)))) g) =
+    rw o in
+    record {
+      request-good = r;
+      checked = c;
+      own = o;
+      flag = said-bit7 all t bit7 f;
+      rest = sym three ∙ sym two ∙ sym one ∙ e;
+    }
+
+-- ---- the parts of a body that belongs to its request
+first-three : (a b c d : Bool) → (a || b || c || d) ≡ false → (a ≡ false) × (b ≡ false) × (c ≡ false)
+first-three a b c d h =
+    let p = or-false (a || b || c) d h in
+    let q = or-false (a || b) c (p .0) in
+    let r = or-false a b (q .0) in
+    (r .0, r .1, q .1)
+
+belongs : (address : ℕ) (r : Row) (body : List ℕ) → foreign address r body ≡ false
+    → (eqb address 255 ≡ false) × (getD body 0 0 ≡ address) × (getD body 1 0 ≡ r .command)
+unfolding foreign
+belongs address r body h =
+    let p = first-three (eqb address 255) (not (eqb (getD body 0 0) address)) (not (eqb (getD body 1 0) (r .command))) _ h in
+    (p .0, eqb-true _ _ (not-false _ (p .1)), eqb-true _ _ (not-false _ (p .2)))
+
+bytes-drop : (n : ℕ) (l : List ℕ) → Bytes l → Bytes (drop n l)
+bytes-drop n l h i = rw (getD-drop n l i 0) (h (n + i))
+
+bytes-take : (n : ℕ) (l : List ℕ) → Bytes l → Bytes (take n l)
+bytes-take zero l h i = omega arith
+bytes-take (suc n) [] h i = h i
+bytes-take (suc n) (x ∷ l) h zero = h 0
+bytes-take (suc n) (x ∷ l) h (suc i) = bytes-take n l (λ j. h (suc j)) i
+
+-- the front of a body of five bytes or more
+front : (b : List ℕ) → 5 ≤ length b → getD b 0 0 ∷ getD b 1 0 ∷ getD b 2 0 ∷ getD b 3 0 ∷ dataIn b ≡ take (length b - 1) b
+unfolding dataIn
+front [] h = absurd (omega arith)
+front (x ∷ []) h = absurd (omega arith)
+front (x ∷ y ∷ []) h = absurd (omega arith)
+front (x ∷ y ∷ z ∷ []) h = absurd (omega arith)
+front (x ∷ y ∷ z ∷ w ∷ rest) h =
+    let e : length (x ∷ y ∷ z ∷ w ∷ rest) - 1 ≡ suc (suc (suc (suc (length (x ∷ y ∷ z ∷ w ∷ rest) - 5)))) = omega arith in
+    rw e
+
+state-again : (code state : ℕ) (bit7 : Bool) → state < 256 → state % 128 ≡ code → leb 0x80 state ≡ bit7 → code + cond bit7 0x80 0 ≡ state
+state-again code state true h e f = let l : 0x80 ≤ state = leb-true _ _ f in omega arith
+state-again code state false h e f = let l : state < 0x80 = leb-false _ _ f in omega arith
+
+module _ (address : ℕ) (q : Request) (body : List ℕ) (bit7 : Bool) {answer : Answered Got} (p : Parts address q body answer bit7) where
+  abbrev passed-body : Passes kind.Reply body
+  passed-body = passes kind.Reply body (p .checked)
+
+  payload-length : length (dataIn body) ≡ lengthIn body
+  unfolding dataIn
+  payload-length =
+      omega (arith, length-take (length body - 5) (drop 4 body), length-drop 4 body, passed-body .length-right, passed-body .least)
+
+  payload-short : length (dataIn body) ≤ 255
+  unfolding dataIn
+  payload-short =
+      omega (arith, length-take (length body - 5) (drop 4 body), length-drop 4 body, passed-body .most, passed-body .least)
+
+  payload-bytes : Bytes body → Bytes (dataIn body)
+  unfolding dataIn
+  payload-bytes b = bytes-take (length body - 5) (drop 4 body) (bytes-drop 4 body b)
+
+  -- a reply with the same data and the same state is written as the same bytes
+  same-bytes : Bytes body → (r : Reply) (words room : List ℕ) → Accepted address q r words → dataOf (contentOf r) words ≡ dataIn body
+      → codeOf (contentOf r) ≡ codeIn body → writeReply address q r words bit7 room ≡ emit (wire body) room
+  unfolding writeReply frameFor frameOf bodyOf
+  same-bytes b r words room a d c =
+      let own = belongs address (row q) body (p .own) in
+      let state : codeOf (contentOf r) + cond bit7 0x80 0 ≡ getD body 2 0 = state-again _ (getD body 2 0) bit7 (b 2) (sym c) (p .flag) in
+      let size : length (dataOf (contentOf r) words) ≡ getD body 3 0 = ap length d ∙ payload-length in
+      let whole : bodyOf address (row q .command) (stateOf (contentOf r) bit7) (dataOf (contentOf r) words) ≡ take (length body - 1) body =
+      rw (state, size, d, ← own .1, ← own .2) (front body (passed-body .least)) in
+      ap (λ (x : Answered (List ℕ)). lay x room) (to-write address q r words bit7 a)
+      ∙ ap (λ (x : List ℕ). emit (wire x) room) (ap withChecksum whole ∙ sym (checked-body kind.Reply body (p .checked)))
+
+-- where the reply is served, the code is 0 and the length is the table's
+settled : (x y z : Bool) → (not x && y) ≡ false → cond x (not z) (not y) ≡ false → (x ≡ true) × (z ≡ true)
+settled true y z h g = (refl, not-false z g)
+settled false y z h g = wrong (sym (not-false y g) ∙ h)
+
+code-zero : (address : ℕ) (q : Request) (body : List ℕ) → (not (eqb (codeIn body) 0) && eqb (lengthIn body) 0) ≡ false → foreign address (row q) body ≡ false
+    → (codeIn body ≡ 0) × (isSize (sizeOf (row q .answer)) (lengthIn body) ≡ true)
+code-zero address q body h f =
+    let s = settled (eqb (codeIn body) 0) (eqb (lengthIn body) 0) (isSize (sizeOf (row q .answer)) (lengthIn body)) h (lengths address (row q) body f) in
+    (eqb-true _ _ (s .0), s .1)
+
+-- what was got, by the table's length
+got-value : (s : Option ℕ) (q : Request) (payload : List ℕ) (r : Reply) → gotBy s q payload ≡ value r
+    → (width : ℕ) × (s ≡ some width) × (replyTo q (big payload) ≡ r)
+got-value none q payload r h = absurd (let z : _≡_ {A = ℕ} 0 1 = cc in omega arith)
+got-value (some width) q payload r h = (width, refl, cc)
+
+got-text : (s : Option ℕ) (q : Request) (payload : List ℕ) (place n : ℕ) → gotBy s q payload ≡ text place n
+    → (s ≡ none) × (4 ≡ place) × (length (textIn payload) ≡ n)
+got-text none q payload place n h = (refl, cc, cc)
+got-text (some width) q payload place n h = absurd (let z : _≡_ {A = ℕ} 0 1 = cc in omega arith)
+
+-- what passed 15, 12 and 13
+record Good (address : ℕ) (q : Request) (body : List ℕ) (g : Got) : Type 0 where
+  no-code : codeIn body ≡ 0
+  size : isSize (sizeOf (row q .answer)) (lengthIn body) ≡ true
+  range : outOfRange (contentOf (replyTo q (big (dataIn body)))) ≡ false
+  float : badFloat (contentOf (replyTo q (big (dataIn body)))) ≡ false
+  it : got q body ≡ g
+
+good : (address : ℕ) (q : Request) (body : List ℕ) (g : Got) (bit7 : Bool) → Parts address q body (served g) bit7 → Good address q body g
+good address q body g bit7 p =
+    let c = contentOf (replyTo q (big (dataIn body))) in
+    let end : Answered Got = served (got q body) in
+    let thirteen : Answered Got = cond (badFloat c) (refused (number 13)) end in
+    let twelve : Answered Got = cond (outOfRange c) (refused (number 12)) thirteen in
+    let k = passed (not (eqb (codeIn body) 0) && eqb (lengthIn body) 0) (15 carrying codeIn body) twelve g (p .rest) in
+    let l = passed (outOfRange c) (number 12) thirteen g (k .1) in
+    let m = passed (badFloat c) (number 13) end g (l .1) in
+    let z = code-zero address q body (k .0) (p .own) in
+    let e : served (got q body) ≡ served g = m .1 in
+    record { no-code = z .0; size = z .1; range = l .0; float = m .0; it = cc }
+
+-- ---- a value
+pub value-again : (address : ℕ) (q : Request) (body : List ℕ) → Bytes body → (r : Reply) (bit7 : Bool)
+    → readReply address q body ≡ (served (value r), some bit7) → (words room : List ℕ)
+    → writeReply address q r words bit7 room ≡ emit (wire body) room
+value-again address q body b r bit7 h words room =
+    let p = parts address q body (served (value r)) bit7 h in
+    let g = good address q body (value r) bit7 p in
+    let payload = dataIn body in
+    let v = got-value (sizeOf (row q .answer)) q payload r (g .it) in
+    let width = v .0 in
+    let c : contentOf r ≡ contentFrom (row q .answer) (big payload) = ap contentOf (sym (v .2)) ∙ content-from q (big payload) in
+    let l : length payload ≡ width =
+    payload-length address q body bit7 p ∙ eqb-true _ _ (sym (ap (λ (s : Option ℕ). isSize s (lengthIn body)) (v .1)) ∙ g .size) in
+    let float : badFloat (contentOf r) ≡ false = ap (λ (x : Reply). badFloat (contentOf x)) (sym (v .2)) ∙ g .float in
+    let w = again (row q .answer) payload words width (payload-bytes address q body bit7 p b) (v .1) l (ap badFloat (sym c) ∙ float) in
+    let d : dataOf (contentOf r) words ≡ payload = ap (λ (x : Content). dataOf x words) c ∙ w .same in
+    let a : Accepted address q r words = record {
+      request-good = p .request-good;
+      one = belongs address (row q) body (p .own) .0;
+      suit = same-kind q r (ap kindOf (sym (v .2)) ∙ same-kind-of-reply q (big payload));
+      in-range = ap (λ (x : Reply). outOfRange (contentOf x)) (sym (v .2)) ∙ g .range;
+      good-text = ap (λ (x : Content). badText x words) c ∙ w .free;
+      good-float = float;
+      short = subst (λ (x : List ℕ). length x ≤ 255) (sym d) (payload-short address q body bit7 p);
+    } in
+    same-bytes address q body bit7 p b r words room a d (ap codeOf c ∙ w .no-code ∙ sym (g .no-code))
+
+-- ---- an error answer
+error-said : (x y : Bool) (code n : ℕ) (checks : List (Bool × Numbered)) (g : Got) → Without 15 checks
+    → cond (not x && y) (refused (15 carrying n)) (inOrder checks g) ≡ refused (15 carrying code) → (x ≡ false) × (y ≡ true) × (n ≡ code)
+error-said true y code n checks g w h = wrong (not-number 15 checks g w h)
+error-said false true code n checks g w h = (refl, refl, cc)
+error-said false false code n checks g w h = wrong (not-number 15 checks g w h)
+
+pub error-again : (address : ℕ) (q : Request) (body : List ℕ) → Bytes body → (code : ℕ) (bit7 : Bool)
+    → readReply address q body ≡ (refused (15 carrying code), some bit7) → (words room : List ℕ)
+    → writeReply address q (DeviceError code) words bit7 room ≡ emit (wire body) room
+error-again address q body b code bit7 h words room =
+    let p = parts address q body (refused (15 carrying code)) bit7 h in
+    let s = error-said (eqb (codeIn body) 0) (eqb (lengthIn body) 0) code (codeIn body) (valueChecks (replyTo q (big (dataIn body)))) (got q body)
+    (refl, (refl, tt)) (p .rest) in
+    let e : codeIn body ≡ code = s .2 in
+    let none-there : length (dataIn body) ≡ 0 = payload-length address q body bit7 p ∙ eqb-true _ _ (s .1) in
+    let small : code ≤ 127 = omega arith in
+    let a : Accepted address q (DeviceError code) words = record {
+      request-good = p .request-good;
+      one = belongs address (row q) body (p .own) .0;
+      suit = refl;
+      in-range = rw (← e, s .0) (rw e (le-ltb 127 code small));
+      good-text = refl;
+      good-float = refl;
+      short = omega arith;
+    } in
+    same-bytes address q body bit7 p b (DeviceError code) words room a (empty (dataIn body) none-there) (sym e)
+
+-- ---- a text
+some-not-none : {A : Type 0} {n : ℕ} → some n ≡ none → A
+some-not-none h = absurd (let z : _≡_ {A = ℕ} 0 1 = cc in omega arith)
+
+text-request : (q : Request) (n : ℕ) → sizeOf (row q .answer) ≡ none → replyTo q n ≡ ProductType
+unfolding row
+text-request request.GetSetpoint n h = some-not-none h
+text-request (request.SetSetpoint x) n h = some-not-none h
+text-request request.MeasuredValue n h = some-not-none h
+text-request request.GetGain n h = some-not-none h
+text-request (request.SetGain x) n h = some-not-none h
+text-request request.GetInitStep n h = some-not-none h
+text-request (request.SetInitStep x) n h = some-not-none h
+text-request request.RawFlow n h = some-not-none h
+text-request request.RawConductivity n h = some-not-none h
+text-request request.Temperature n h = some-not-none h
+text-request request.NumberOfCalibrations n h = some-not-none h
+text-request (request.Validity index) n h = some-not-none h
+text-request request.FullScale n h = some-not-none h
+text-request request.GetCalibration n h = some-not-none h
+text-request (request.SetCalibration c) n h = some-not-none h
+text-request (request.VolatileCalibration c) n h = some-not-none h
+text-request request.GetAddress n h = some-not-none h
+text-request (request.SetAddress a) n h = some-not-none h
+text-request request.GetBaud n h = some-not-none h
+text-request (request.SetBaud rate) n h = some-not-none h
+text-request request.ProductType n h = refl
+
+module _ (address : ℕ) (q : Request) (body : List ℕ) (place n : ℕ) (bit7 : Bool) (h : readReply address q body ≡ (served (text place n), some bit7)) where
+  abbrev p : Parts address q body (served (text place n)) bit7
+  p = parts address q body (served (text place n)) bit7 h
+
+  abbrev words : List ℕ
+  words = take n (drop place body)
+
+  found : (sizeOf (row q .answer) ≡ none) × (4 ≡ place) × (length (textIn (dataIn body)) ≡ n)
+  found = got-text (sizeOf (row q .answer)) q (dataIn body) place n (good address q body (text place n) bit7 p .it)
+
+  -- the text stands at the place that is answered
+  pub text-placed : words ≡ textIn (dataIn body)
+  unfolding dataIn
+  text-placed =
+      let l : n ≤ length body - 5 =
+      omega (arith, text-no-longer (take (length body - 5) (drop 4 body)), length-take (length body - 5) (drop 4 body), found .2) in
+      rw (← found .1, ← take-take n (length body - 5) (drop 4 body) l, ← found .2) (text-first (take (length body - 5) (drop 4 body)))
+
+  suit : suits q ProductType ≡ true
+  suit = same-kind q ProductType (ap kindOf (sym (text-request q 0 (found .0))))
+
+  length-words : length words ≡ n
+  length-words = ap length text-placed ∙ found .2
+
+  text-accepted : n ≤ 254 → Accepted address q ProductType words
+  text-accepted l =
+      let e = length-words in
+      let clean : member 0 words ≡ false = ap (member 0) text-placed ∙ text-clean (dataIn body) in
+      record {
+        request-good = p .request-good;
+        one = belongs address (row q) body (p .own) .0;
+        suit = suit;
+        in-range = refl;
+        good-text = rw (le-ltb 254 (length words) (omega arith)) clean;
+        good-float = refl;
+        short = omega (arith, length-append words (0 ∷ []));
+      }
+
+  pub text-again : (room : List ℕ) → n ≤ 254
+      → writeReply address q ProductType words bit7 room ≡ emit (frameFor address (row q .command) Text (textIn (dataIn body)) bit7) room
+  unfolding writeReply
+  text-again room l =
+      ap (λ (x : Answered (List ℕ)). lay x room) (to-write address q ProductType words bit7 (text-accepted l))
+      ∙ ap (λ (x : List ℕ). emit (frameFor address (row q .command) Text x bit7) room) text-placed
+
+  pub text-too-long : (room : List ℕ) → 254 < n → writeReply address q ProductType words bit7 room ≡ (refused (number 12), room)
+  unfolding writeReply frameToWrite checkRequest
+  text-too-long room l =
+      let e = length-words in
+      let o = belongs address (row q) body (p .own) .0 in
+      let f = frame address q ProductType words bit7 in
+      let stopped : inOrder (writeChecks address q ProductType words) f ≡ refused (number 12) = rw (o, suit, lt-ltb 254 (length words) (omega arith)) in
+      ap (λ (x : Answered (List ℕ)). lay x room)
+      (then-more {A = ℕ × Request} (address, q) f (writeChecks address q ProductType words) (requestChecks address q) (p .request-good) ∙ stopped)
+
+  pub whole-text-again : Bytes body → dataIn body ≡ textIn (dataIn body) ++ (0 ∷ []) → (room : List ℕ)
+      → writeReply address q ProductType words bit7 room ≡ emit (wire body) room
+  whole-text-again b e room =
+      let l : n ≤ 254 =
+      omega (arith, ap length e, length-append (textIn (dataIn body)) (0 ∷ []), payload-short address q body bit7 p, found .2) in
+      let d : words ++ (0 ∷ []) ≡ dataIn body = ap (λ (x : List ℕ). x ++ (0 ∷ [])) text-placed ∙ sym e in
+      same-bytes address q body bit7 p b ProductType words room (text-accepted l) d (sym (good address q body (text place n) bit7 p .no-code))
+
+-- ---- 5 never comes
+data-short : (c : Content) (words : List ℕ) → badText c words ≡ false → ltb 255 (length (dataOf c words)) ≡ false
+unfolding bigEndian
+data-short Nothing words h = refl
+data-short (Float x) words h = refl
+data-short (U16 n) words h = refl
+data-short (U32 n) words h = refl
+data-short (Validity v) words h = refl
+data-short (Address a) words h = refl
+data-short (Baud rate) words h = refl
+data-short Text words h =
+    let l : length words ≤ 254 = ltb-false _ _ (or-false (ltb 254 (length words)) (member 0 words) h .0) in
+    le-ltb 255 (length (words ++ (0 ∷ []))) (omega (arith, length-append words (0 ∷ [])))
+data-short (Error code) words h = refl
+
+not-five : {A : Type 0} {n : Numbered} → eqb (numberIn n) 5 ≡ false → _≡_ {A = Answered A} (refused n) (refused (number 5)) → ⊥
+not-five {n = n} e h = let f : n ≡ number 5 = cc in wrong (sym (ap (λ (m : Numbered). eqb (numberIn m) 5) f) ∙ e)
+
+checks-not-5 : (a r t f d : Bool) (bytes : List ℕ) → (t ≡ false → d ≡ false)
+    → inOrder ((a, number 14) ∷ (r || t, number 12) ∷ (f, number 13) ∷ (d, number 5) ∷ []) bytes ≡ refused (number 5) → ⊥
+checks-not-5 true r t f d bytes k h = not-five refl h
+checks-not-5 false true t f d bytes k h = not-five refl h
+checks-not-5 false false true f d bytes k h = not-five refl h
+checks-not-5 false false false true d bytes k h = not-five refl h
+checks-not-5 false false false false true bytes k h = wrong (k refl)
+checks-not-5 false false false false false bytes k h = never h
+
+lay-not-5 : (a : Answered (List ℕ)) (room : List ℕ) → lay a room .0 ≡ refused (number 5) → a ≡ refused (number 5)
+unfolding emit
+lay-not-5 (refused n) room h = let f : n ≡ number 5 = cc in ap refused f
+lay-not-5 (served f) room h = absurd (go (ltb (length room) (length f)) h)
+  where
+    go : (t : Bool) → cond {A = Answered ℕ × List ℕ} t (refused (number 1), room) (served (length f), overlay room 0 f) .0 ≡ refused (number 5) → ⊥
+    go true h = not-five refl h
+    go false h = never h
+
+pub not-5 : (address : ℕ) (q : Request) (r : Reply) (words : List ℕ) (bit7 : Bool) (room : List ℕ)
+    → writeReply address q r words bit7 room .0 ≡ refused (number 5) → ⊥
+unfolding writeReply frameToWrite
+not-5 address q r words bit7 room h =
+    let f = frame address q r words bit7 in
+    let e = lay-not-5 (frameToWrite address q r words bit7) room h in
+    ⊎-elim
+    (λ g. checks-not-5 (eqb address 255 || not (suits q r)) (outOfRange (contentOf r)) (badText (contentOf r) words) (badFloat (contentOf r)) _ f (data-short (contentOf r) words)
+    (sym (then-more {A = ℕ × Request} (address, q) f (writeChecks address q r words) (requestChecks address q) g) ∙ e))
+    (λ g. not-five (not-number {A = ℕ × Request} 5 (requestChecks address q) (address, q) (refl, (refl, (refl, tt))) (g .1))
+    (sym (first-refuses {A = ℕ × Request} (address, q) f (writeChecks address q r words) (requestChecks address q) (g .1)) ∙ e))
+    (passes-or-refuses {A = ℕ × Request} (requestChecks address q) (address, q))
