@@ -94,7 +94,7 @@ fn row(line: &[u8]) {
 
 fn main() {
     let mut room = [0u8; 512];
-    // More lines than the table has: a program that ends.
+    // A bound on the lines, so that the program ends; the table has far fewer.
     let mut left: u32 = 100_000;
     while 0 < left {
         let line = read_line(&mut room);

@@ -141,7 +141,7 @@ fn reading_of(value: &[u8]) -> Reading {
     Reading::Finite(sfc6::float_of(number(value)))
 }
 
-// The reply that a word names; an error with code 0 where the name is none.
+// The reply that a word names: an error, with the code that it carries, where it is none of the others.
 pub(crate) fn reply_of(word: &[u8]) -> Reply {
     let name = before(word, b'=');
     let value = behind(word, b'=');

@@ -38,28 +38,34 @@ pub(crate) fn checksum(line: &[u8]) {
     show::byte(shdlc::checksum(part(&room, 0, n)));
 }
 
-// Says what a call of the receiver answered, and whether that is an item. A frame's body stands at the start of the marked buffer.
-fn item(answer: Answer, frame: &[u8]) -> bool {
+// Says so where the room is not as it was marked, from a place on.
+fn stays(room: &[u8], from: usize) {
+    if !untouched(room, from) {
+        show::text(b" changed");
+    }
+}
+
+// How many bytes of the frame buffer an answer fills.
+fn body_size(answer: Answer) -> usize {
     match answer {
-        Answer::Nothing => {
-            if !untouched(frame, 0) {
-                show::changed();
-            }
-            false
-        }
+        Answer::Nothing => 0,
+        Answer::Frame(len) => len,
+        Answer::Refused(_) => 0,
+    }
+}
+
+// Says what a call of the receiver answered, and whether that is an item. The frame buffer was marked before the call.
+fn item(answer: Answer, frame: &[u8]) -> bool {
+    stays(frame, body_size(answer));
+    match answer {
+        Answer::Nothing => false,
         Answer::Frame(len) => {
             show::text(b" frame ");
             show::decimal(len as u64);
-            if !untouched(frame, len) {
-                show::changed();
-            }
             true
         }
         Answer::Refused(r) => {
             show::refused(r);
-            if !untouched(frame, 0) {
-                show::changed();
-            }
             true
         }
     }
@@ -220,50 +226,47 @@ pub(crate) fn lent(line: &[u8]) {
     took(fed.taken, answer, &frame);
 }
 
-// The first item of the bytes on the wire.
+// The first item of the bytes on the wire, with a frame buffer that was marked.
 fn first_item(kind: Kind, wire: &[u8], frame: &mut [u8]) -> Answer {
     let mut store = [0u8; 260];
     let Made::Fresh(fresh) = receiver::fresh(kind, &mut store) else {
         return Answer::Nothing;
     };
     let fed = receiver::feed(fresh, &mut store, wire, frame);
+    let answer = fed.answer;
+    stays(frame, body_size(answer));
     if fed.taken != wire.len() {
         show::text(b" not whole");
     }
-    fed.answer
+    answer
 }
 
-// What a writer made: the bytes, or its refusal; all other room is as it was.
-fn written(answer: Written, room: &[u8]) {
+// How many bytes a writer wrote.
+fn frame_size(answer: Written) -> usize {
     match answer {
-        Written::Done(n) => {
-            show::bytes(part(room, 0, n));
-            if !untouched(room, n) {
-                show::changed();
-            }
-        }
-        Written::Refused(r) => {
-            show::refused(r);
-            if !untouched(room, 0) {
-                show::changed();
-            }
-        }
+        Written::Done(n) => n,
+        Written::Refused(_) => 0,
     }
 }
 
-// The same of what was read before: the same bytes, or which.
-fn again(answer: Written, room: &[u8], wire: &[u8]) {
-    if let Written::Done(n) = answer {
-        if same(part(room, 0, n), wire) {
-            show::text(b" same");
-            if !untouched(room, n) {
-                show::changed();
-            }
-            return;
-        }
+// What a writer made of the room, which was marked before: the bytes, or its refusal.
+fn written(answer: Written, room: &[u8]) {
+    stays(room, frame_size(answer));
+    match answer {
+        Written::Done(n) => show::bytes(part(room, 0, n)),
+        Written::Refused(r) => show::refused(r),
     }
-    show::text(b" again");
-    written(answer, room);
+}
+
+// The same of what was read from the wire before: it is the same, or what it is.
+fn again(answer: Written, room: &[u8], wire: &[u8]) {
+    if same(part(room, 0, frame_size(answer)), wire) {
+        stays(room, frame_size(answer));
+        show::text(b" same");
+    } else {
+        show::text(b" again");
+        written(answer, room);
+    }
 }
 
 // Reads a request from its body, and writes it again.

@@ -63,8 +63,3 @@ pub(crate) fn flag(bit7: bool) {
         text(b" flag");
     }
 }
-
-// A lent byte changed that had to stay.
-pub(crate) fn changed() {
-    text(b" changed");
-}
