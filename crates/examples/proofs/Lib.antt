@@ -1,0 +1,2 @@
+-- The theorem of the twelve examples.
+pub mod Examples

@@ -1,0 +1,2 @@
+-- The twelve examples of document 01.
+pub mod Table
