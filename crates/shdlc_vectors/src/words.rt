@@ -2,8 +2,7 @@
 use crate::bytes::find;
 use crate::bytes::part;
 use crate::bytes::push;
-ghost use Prim.Native.Nat.{_≤_, _<_};
-ghost use lib.ListN.{length};
+ghost use Prim.Native.Nat.{_<_};
 
 // The bytes that a word stands for: one or two, so many times.
 pub(crate) struct Repeat {

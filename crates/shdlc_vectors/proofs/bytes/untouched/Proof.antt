@@ -1,5 +1,4 @@
 -- `shdlc_vectors::bytes::untouched` is safe and ends. Assumes nothing.
-use borrow.Author.Needs.{needs}
 use Prim.Native.Nat.{_-_}
 use native.Mathlib.Omega.{arith}
 use lib.ListN.{length}
