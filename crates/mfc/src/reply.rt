@@ -3,6 +3,7 @@ use crate::answers::MfcReply;
 use crate::answers::MfcWritten;
 use crate::answers::not_written;
 use crate::answers::of_written;
+use crate::requests::LAST_REQUEST;
 use crate::requests::place;
 use crate::requests::wide;
 use refusal::Refusal;
@@ -212,7 +213,7 @@ pub extern "C" fn mfc_write_reply(
 ) -> MfcWritten
     ensures { λ r. ⌜ (r, now (out .exit)) ≡ writeAnswer address request value reply «reply_value» (now (text .entry)) bit7 (now (out .entry)) ⌝ }
 {
-    if 20 < request {
+    if LAST_REQUEST < request {
         return not_written(Refusal::UnknownCommand);
     }
     let asked = sfc6::request_of(place(request), value);
@@ -292,7 +293,7 @@ fn of_read(r: ReadReply) -> MfcReply
 pub extern "C" fn mfc_read_reply(address: u8, request: u8, value: u32, body: &[u8]) -> MfcReply
     ensures { λ r. ⌜ r ≡ readAnswer address request value (now (body .entry)) ⌝ }
 {
-    if 20 < request {
+    if LAST_REQUEST < request {
         return not_read(Refusal::UnknownCommand);
     }
     of_read(replies::read_reply(address, sfc6::request_of(place(request), value), body))

@@ -13,6 +13,9 @@ ghost use Rattle.sfc6.specs.Paper.{paperRead};
 ghost use Rattle.sfc6.specs.Reading.{readRequest};
 ghost use Rattle.mfc.specs.Requests.{placeOf, valueOf, request, writeNumbered, appendNumbered};
 
+// The number of the last request.
+pub(crate) const LAST_REQUEST: u8 = 20;
+
 // The checksum of the n bytes of a body before it: 255 minus their sum modulo 256. It refuses nothing.
 #[no_mangle]
 pub extern "C" fn mfc_checksum(bytes: &[u8]) -> u8
@@ -45,7 +48,7 @@ pub extern "C" fn mfc_write_request(
 ) -> MfcWritten
     ensures { λ r. ⌜ (r, now (out .exit)) ≡ writeNumbered address request value (now (out .entry)) ⌝ }
 {
-    if 20 < request {
+    if LAST_REQUEST < request {
         return not_written(Refusal::UnknownCommand);
     }
     of_written(sfc6::write_request(address, sfc6::request_of(place(request), value), out))
@@ -63,7 +66,7 @@ pub extern "C" fn mfc_write_request_at(
 ) -> MfcWritten
     ensures { λ r. ⌜ (r, now (buffer .exit)) ≡ appendNumbered (now (buffer .entry)) start address request value ⌝ }
 {
-    if 20 < request {
+    if LAST_REQUEST < request {
         return not_written(Refusal::UnknownCommand);
     }
     of_written(sfc6::append_request(
