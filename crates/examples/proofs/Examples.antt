@@ -16,7 +16,6 @@ use Rattle.sfc6.specs.Reading.{startsWith, named, fitting, first, carried, type
 use Rattle.replies.specs.Reader.{dataIn, foreign, answerTo, readReply}
 use Rattle.replies.specs.Writer.{bodyOf, frameFor, writeReply}
 use Rattle.replies.specs.Writer.{frameToWrite as replyToWrite}
-use Rattle.i2c.specs.Answer.{overlay as stored, store}
 use Rattle.i2c.specs.Crc.{bitStep, bitSteps, byteStep, crcOf}
 use Rattle.i2c.specs.Word.{wordsOf, checkWord, firstWrong, noWords, readChecked, readWords}
 use Rattle.reading.specs.Reading.{goodScale, InThousandths}
@@ -33,7 +32,7 @@ unfolding overlay emit
     big bigEndian row dataOf requestBody frameToWrite writeRequest
     checkRequest startsWith named fitting first carried typed readRequest
     dataIn foreign answerTo readReply bodyOf frameFor replyToWrite writeReply
-    stored store bitStep bitSteps byteStep crcOf wordsOf checkWord firstWrong noWords readChecked readWords
+    bitStep bitSteps byteStep crcOf wordsOf checkWord firstWrong noWords readChecked readWords
     goodScale InThousandths ofInt ofBits toBits
 examples =
     refl
