@@ -1,4 +1,5 @@
 -- The laws of the definitions in specs/, and demand 3.
+pub mod Bytes
 pub mod Turns
 pub mod Cases
 pub mod Simulation

@@ -4,6 +4,7 @@ use mathlib.Core.Path.{_≡_, sym, _∙_}
 use mathlib.Core.Bool.{true}
 use Rattle.receiver.specs.Record.{Record, held, inRange}
 use Rattle.receiver.proofs.Cases.{not-true, not-false, silence-range, silence-cut, silence-idle, quiet-left}
+use Rattle.receiver.proofs.Turns.{pending-by-number}
 use Rattle.receiver.proofs.silence.Statement.{statement}
 use Rattle.receiver.proofs.silence.Tie as tie
 
@@ -22,11 +23,12 @@ silence-spec =
     (λ c. sym (silence-range _ (sym (c .before .in-range .ensures) ∙ not-true _ (c .if1 .taken))))
     (λ c κs. search needs)
     (λ c κs. search needs)
+    (λ c κs. search needs)
     (λ c.
-    let o = c .before .before in
+    let o = c .before .before .before in
     quiet-left _ (rec o) _ (o .outside .ensures)
-    ∙ sym (silence-cut (rec o) (in-range o) (sym (c .before .is-pending .ensures) ∙ c .if2 .taken)))
+    ∙ sym (silence-cut (rec o) (in-range o) (pending-by-number (rec o .mode) _ _ (c .before .before .mode-number .ensures) (sym (c .before .is-pending .ensures) ∙ c .if2 .taken))))
     (λ c.
-    let o = c .before .before in
+    let o = c .before .before .before in
     quiet-left _ (rec o) _ (o .outside .ensures)
-    ∙ sym (silence-idle (rec o) (in-range o) (sym (c .before .is-pending .ensures) ∙ c .if2 .left))))
+    ∙ sym (silence-idle (rec o) (in-range o) (pending-by-number (rec o .mode) _ _ (c .before .before .mode-number .ensures) (sym (c .before .is-pending .ensures) ∙ c .if2 .left)))))
