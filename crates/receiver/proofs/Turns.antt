@@ -1,71 +1,22 @@
--- What a turn of the scan's loop comes to. Assumes nothing.
+-- What a turn of the scan's loop comes to, and a run of bytes that it stores. Assumes nothing.
 use Prim.Native.Nat.{ℕ, _+_, _-_, _<_, _≤_}
 use native.Mathlib.Omega.{arith}
 use mathlib.Core.Path.{_≡_, refl, sym, ap, subst, _∙_}
 use mathlib.Core.Bool.{Bool, true, false, cond, _||_, false≢true}
 use mathlib.Core.List.{List, [], _∷_}
-use mathlib.Core.Option.{none, some}
 use native.Mathlib.Nat.{add-zero, add-assoc}
 use borrow.Author.Tests.{lt-ltb, le-ltb, ne-eqb, eq-eqb, eqb-false}
-use lib.Bits.{bitXor}
 use lib.Dec.{eqb}
 use lib.ListN.{length, getD, take, drop, set, length-drop}
 use lib.Seq.{take-all, drop-drop}
 use Rattle.shdlc.specs.declared.Kind.{Kind}
-use Rattle.shdlc.specs.Stuffing.{escapes, leftOf, isControl}
+use Rattle.shdlc.specs.Stuffing.{isControl}
 use Rattle.refusal.proofs.Rest.{rest-here, rest-end}
 use Rattle.receiver.specs.declared.Mode.{Mode}
-use Rattle.receiver.specs.declared.Mode.the-variants.{Outside, Plain, Escaped, BadEscape, BareControl}
-use Rattle.receiver.specs.Record.{Record, inStretch, numberOfMode, modeOf, Act, Store, Become, actOf, acted, opened, pendingIn, pending, nextByte}
+use Rattle.receiver.specs.declared.Mode.the-variants.{Plain, Escaped, BareControl}
+use Rattle.receiver.specs.Record.{Record, inStretch, Act, Store, Become, actOf, acted, opened, pending, nextByte}
 use Rattle.receiver.specs.Calls.{Scan, scanFrom, Runs}
 use Rattle.receiver.proofs.Bytes.{special}
-
--- a mode's number and back
-pub mode-back : (mode : Mode) → modeOf (numberOfMode mode) ≡ mode
-mode-back Outside = refl
-mode-back Plain = refl
-mode-back Escaped = refl
-mode-back BadEscape = refl
-mode-back BareControl = refl
-
-pub pending-by-number : (mode : Mode) (m n : ℕ) {t : Bool} → m ≡ numberOfMode mode → pendingIn (modeOf m) n ≡ t → pendingIn mode n ≡ t
-pending-by-number mode m n e p = sym (ap (λ (x : Mode). pendingIn x n) (ap modeOf e ∙ mode-back mode)) ∙ p
-
--- a number that is none of the first two modes' is that of a stretch with a byte
-pub pending-other : (m n : ℕ) → (m ≡ 0 → ⊥) → (m ≡ 1 → ⊥) → pendingIn (modeOf m) n ≡ true
-pending-other m n o p = rw (ne-eqb m 0 o, ne-eqb m 1 p) (go (eqb m 2) (eqb m 3))
-  where
-    go : (t u : Bool) → pendingIn (cond t Escaped (cond u BadEscape BareControl)) n ≡ true
-    go true u = refl
-    go false true = refl
-    go false false = refl
-
--- what a byte does in a mode that is known by its number
-module _ (m b : ℕ) where
-  pub act-escape : m ≡ 1 → b ≡ 0x7D → actOf (modeOf m) b ≡ Become Escaped
-  act-escape h e = rw (h, e)
-
-  pub act-control : m ≡ 1 → (b ≡ 0x7D → ⊥) → isControl b ≡ true → actOf (modeOf m) b ≡ Become BareControl
-  act-control h e c = rw (h, ne-eqb b 0x7D e, c)
-
-  pub act-plain : m ≡ 1 → (b ≡ 0x7D → ⊥) → isControl b ≡ false → actOf (modeOf m) b ≡ Store b
-  act-plain h e c = rw (h, ne-eqb b 0x7D e, c)
-
-  pub act-escaped : (t : Bool) → m ≡ 2 → leftOf escapes b ≡ cond t (some (bitXor b 0x20)) none → t ≡ true
-      → actOf (modeOf m) b ≡ Store (bitXor b 0x20)
-  act-escaped t h e is = rw (h, e, is)
-
-  pub act-bad : (t : Bool) → m ≡ 2 → leftOf escapes b ≡ cond t (some (bitXor b 0x20)) none → t ≡ false
-      → actOf (modeOf m) b ≡ Become BadEscape
-  act-bad t h e is = rw (h, e, is)
-
-  pub act-none : (m ≡ 1 → ⊥) → (m ≡ 2 → ⊥) → actOf (modeOf m) b ≡ Become (modeOf m)
-  act-none p e = rw (ne-eqb m 1 p, ne-eqb m 2 e) (go (eqb m 0) (eqb m 3))
-    where
-      go : (t u : Bool) → actOf (cond t Outside (cond u BadEscape BareControl)) b ≡ Become (cond t Outside (cond u BadEscape BareControl))
-      go true u = refl
-      go false true = refl
-      go false false = refl
 
 module _ (r : Record) (b : ℕ) where
   pub store-room : r .len < 260
@@ -73,7 +24,7 @@ module _ (r : Record) (b : ℕ) where
   unfolding acted
   store-room h = rw (lt-ltb (r .len) 260 h)
 
-  pub store-full : 260 ≤ r .len → acted r (Store b) ≡ record { kind = r .kind; mode = Plain; len = 261; store = r .store }
+  store-full : 260 ≤ r .len → acted r (Store b) ≡ record { kind = r .kind; mode = Plain; len = 261; store = r .store }
   unfolding acted
   store-full h = rw (le-ltb (r .len) 260 h)
 
@@ -106,7 +57,8 @@ module _ (n : ℕ) (r : Record) (b : ℕ) (piece : List ℕ) where
 
 -- a loop that has read i bytes of the piece reads one more
 pub scan-next : (start r : Record) (piece : List ℕ) (i : ℕ) {x : Scan} → i < length piece
-    → scanFrom 0 start piece ≡ scanFrom i r (drop i piece) → scanFrom i r (getD piece i 0 ∷ drop (i + 1) piece) ≡ x → scanFrom 0 start piece ≡ x
+    → scanFrom 0 start piece ≡ scanFrom i r (drop i piece) → scanFrom i r (getD piece i 0 ∷ drop (i + 1) piece) ≡ x
+    → scanFrom 0 start piece ≡ x
 scan-next start r piece i h e q = e ∙ ap (scanFrom i r) (rest-here piece i h) ∙ q
 
 scan-end : (n : ℕ) (r : Record) → scanFrom n r [] ≡ record { before = r; taken = n; closed = false }
@@ -123,12 +75,12 @@ pub run-none : (store : List ℕ) (len : ℕ) (piece : List ℕ) → Runs store 
 run-none store len piece kind taken = simp add-zero
 
 -- a byte that is not special is stored
-not-special : (t u v : Bool) (b : ℕ) → (t || (u || v)) ≡ false
+plain-byte : (t u v : Bool) (b : ℕ) → (t || (u || v)) ≡ false
     → (t ≡ false) × (cond u (Become Escaped) (cond v (Become BareControl) (Store b)) ≡ Store b)
-not-special true u v b h = absurd (false≢true (sym h))
-not-special false true v b h = absurd (false≢true (sym h))
-not-special false false true b h = absurd (false≢true (sym h))
-not-special false false false b h = (refl, refl)
+plain-byte true u v b h = absurd (false≢true (sym h))
+plain-byte false true v b h = absurd (false≢true (sym h))
+plain-byte false false true b h = absurd (false≢true (sym h))
+plain-byte false false false b h = (refl, refl)
 
 module _ (start : List ℕ) (len : ℕ) (piece store : List ℕ) (i : ℕ) where
   -- one more byte of it
@@ -136,7 +88,7 @@ module _ (start : List ℕ) (len : ℕ) (piece store : List ℕ) (i : ℕ) where
       → Runs start len piece store i → Runs start len piece (set store (len + i) (getD piece i 0)) (i + 1)
   run-next h room plain runs kind taken =
       let b : ℕ = getD piece i 0 in
-      let p = not-special (eqb b 0x7E) (eqb b 0x7D) (isControl b) b plain in
+      let p = plain-byte (eqb b 0x7E) (eqb b 0x7D) (isControl b) b plain in
       runs kind taken ∙ ap (scanFrom (taken + i) (inStretch kind (len + i) store)) (rest-here piece i h)
       ∙ turn-store (taken + i) (inStretch kind (len + i) store) b (drop (i + 1) piece) (eqb-false b 0x7E (p .0)) b (p .1) room
       ∙ rw (add-assoc taken i 1, add-assoc len i 1)
@@ -149,9 +101,10 @@ module _ (piece : List ℕ) (j : ℕ) where
   pub run-within : (n : ℕ) → j ≤ length piece → n ≤ length (take (length piece - j) (drop j piece)) → j + n ≤ length piece
   run-within n h g = omega (arith, ap length (left h), length-drop j piece)
 
-  pub run-left : (start store : List ℕ) (len n : ℕ) (kind : Kind) → j ≤ length piece → Runs start len (take (length piece - j) (drop j piece)) store n
+  pub run-left : (start store : List ℕ) (len n : ℕ) (kind : Kind) → j ≤ length piece
+      → Runs start len (take (length piece - j) (drop j piece)) store n
       → scanFrom j (inStretch kind len start) (drop j piece) ≡ scanFrom (j + n) (inStretch kind (len + n) store) (drop (j + n) piece)
   run-left start store len n kind h runs =
-      subst (λ (p : List ℕ). scanFrom j (inStretch kind len start) p ≡ scanFrom (j + n) (inStretch kind (len + n) store) (drop n p)) (left h)
-      (runs kind j)
+      subst (λ (p : List ℕ). scanFrom j (inStretch kind len start) p ≡ scanFrom (j + n) (inStretch kind (len + n) store) (drop n p))
+      (left h) (runs kind j)
       ∙ ap (scanFrom (j + n) (inStretch kind (len + n) store)) (drop-drop n j piece)

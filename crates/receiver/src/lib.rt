@@ -111,7 +111,7 @@ fn is_control(b: u8) -> bool
     }
 }
 
-// Whether the byte may follow a 7D.
+// Whether the byte may follow a 7D; the byte that it stands for is then the one that differs in the bit 20.
 fn is_escaped(b: u8) -> bool
     ensures { λ r. ⌜ leftOf escapes b ≡ cond r (some (bitXor b 0x20)) none ⌝ }
 {

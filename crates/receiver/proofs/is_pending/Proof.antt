@@ -1,6 +1,6 @@
 -- `receiver::is_pending` meets its contract. Assumes nothing.
 use mathlib.Core.Path.{sym}
-use Rattle.receiver.proofs.Turns.{pending-other}
+use Rattle.receiver.proofs.Modes.{pending-other}
 use Rattle.receiver.proofs.is_pending.Statement.{statement}
 use Rattle.receiver.proofs.is_pending.Tie as tie
 

@@ -12,7 +12,8 @@ use Rattle.receiver.specs.declared.Mode.the-variants.{Escaped, BadEscape
 use Rattle.receiver.specs.declared.Receiver.{Receiver}
 use Rattle.receiver.specs.Record.{Record, held, inStretch, numberOfMode, modeOf, Store, actOf}
 use Rattle.receiver.specs.Calls.{Scan, scanFrom}
-use Rattle.receiver.proofs.Turns.{mode-back, act-escape, act-control, act-plain, act-escaped, act-bad, act-none, turn-close, turn-open, turn-become, turn-store, turn-full, scan-next, scan-done, run-within, run-left}
+use Rattle.receiver.proofs.Modes.{mode-back, act-escape, act-control, act-plain, act-escaped, act-bad, act-none}
+use Rattle.receiver.proofs.Turns.{turn-close, turn-open, turn-become, turn-store, turn-full, scan-next, scan-done, run-within, run-left}
 use Rattle.receiver.proofs.scan.Statement.{statement}
 use Rattle.receiver.proofs.scan.Tie as tie
 
@@ -42,7 +43,8 @@ returned : (r : Receiver) (m₀ : ℕ) (store₀ piece : List ℕ) (s : Scan) (m
     → in-mode s mode ≡ scanFrom 0 (held r store₀) piece
 returned r m₀ store₀ piece s mode e f q =
     ap (in-mode s) f ∙ sym q
-    ∙ ap (λ (x : Mode). scanFrom 0 (record { kind = r .kind; mode = x; len = r .len; store = store₀ }) piece) (ap modeOf e ∙ mode-back (r .mode))
+    ∙ ap (λ (x : Mode). scanFrom 0 (record { kind = r .kind; mode = x; len = r .len; store = store₀ }) piece)
+    (ap modeOf e ∙ mode-back (r .mode))
 
 -- one more byte read: the turn's law gives the scan from there
 module _ (c : tie.After-shared-slice-known2 Inv-loop μ-loop) where
@@ -91,7 +93,9 @@ loop-again-2 c =
       search needs,
       l .inv .1,
       l .inv .2,
-      read b (turn-become (l .i) (here b) _ _ (c .before .before .if1 .left) Escaped (act-escape _ _ (c .before .if3 .taken) (c .if4 .taken))),
+      read b
+          (turn-become (l .i) (here b) _ _ (c .before .before .if1 .left) Escaped
+          (act-escape _ _ (c .before .if3 .taken) (c .if4 .taken))),
     )
 
 loop-again-3 : tie.Need-loop-again-3 Inv-loop μ-loop
@@ -108,7 +112,8 @@ loop-again-3 c =
     )
 
 -- the mode's number stays in a run
-same-mode : (kind : Kind) (m len : ℕ) (store : List ℕ) (n : ℕ) (l : List ℕ) → m ≡ 1 → scanFrom n (inStretch kind len store) l ≡ scanFrom n (now kind m len store) l
+same-mode : (kind : Kind) (m len : ℕ) (store : List ℕ) (n : ℕ) (l : List ℕ) → m ≡ 1
+    → scanFrom n (inStretch kind len store) l ≡ scanFrom n (now kind m len store) l
 same-mode kind m len store n l h = ap (λ (x : ℕ). scanFrom n (now kind x len store) l) (sym h)
 
 -- a byte of the body as it is
@@ -158,7 +163,9 @@ loop-again-5 c =
       search needs,
       simp length-set (l .inv .1),
       simp length-set (l .inv .2),
-      read (at k) (turn-store (l .i) (here (at k)) _ _ (no-end k) (byte k) (plain k) (c .before .if6 .taken) ∙ same-mode _ _ _ _ _ _ (is-plain k)),
+      read (at k)
+          (turn-store (l .i) (here (at k)) _ _ (no-end k) (byte k) (plain k) (c .before .if6 .taken)
+          ∙ same-mode _ _ _ _ _ _ (is-plain k)),
     )
 
 loop-again-6 : tie.Need-loop-again-6 Inv-loop μ-loop
@@ -228,8 +235,8 @@ returns-2 c =
     let l = t .loop in
     let a = t .before .before .before .before .args in
     returned (a .r) _ (a .store .now) (a .piece .now) _ _ (t .before .mode-number .ensures) (c .mode-of2 .ensures)
-    (scan-done (now (a .r .kind) (t .before .mode-number .result) (a .r .len) (a .store .now)) (now (a .r .kind) (l .m) (l .len) (l .store)) (a .piece .now) (l .i)
-    (c .before .loop-test .left) (l .inv .3))
+    (scan-done (now (a .r .kind) (t .before .mode-number .result) (a .r .len) (a .store .now))
+    (now (a .r .kind) (l .m) (l .len) (l .store)) (a .piece .now) (l .i) (c .before .loop-test .left) (l .inv .3))
 
 pub scan-spec : {M : Type 1} → statement M
 scan-spec =
@@ -257,7 +264,7 @@ scan-spec =
     (λ c. omega arith)
     (λ c. search needs)
     (λ c. search needs)
-    (λ c κs. (simp length-set (c .before .before .before .before .before .before .before .before .before .before .before .loop .inv .1), omega arith))
+    (λ c κs. let k = c .before .before .before .before in (simp length-set (loop (at k) .loop .inv .1), omega arith))
     (λ c. omega arith)
     (λ c. omega (arith, within (c .before .before)))
     (λ c. omega (arith, within (c .before .before)))
