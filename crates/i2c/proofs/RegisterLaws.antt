@@ -2,7 +2,7 @@
 use mathlib.Core.Path.{_≡_, refl, sym, ap, _∙_}
 use mathlib.Core.Bool.{Bool, true, false, cond, _&&_}
 use Prim.Native.Nat.{ℕ, zero, suc, _+_, _-_, _*_, _/_, _%_, _^_, _≤_, _<_}
-use native.Mathlib.Nat.{div-div-eq-div-mul, pow-suc, pow-succ', div-one, div-add-mod', mod-lt, le-of-suc-le-suc, not-suc-le-zero}
+use native.Mathlib.Nat.{div-div-eq-div-mul, pow-suc, pow-succ', div-one, div-add-mod', mod-lt, add-mul, le-of-suc-le-suc, not-suc-le-zero}
 use native.Mathlib.Omega.{arith}
 use lib.Arith.{digits-div}
 use lib.Pow.{pow-add, pow-pos}
@@ -76,31 +76,37 @@ module _ (low a m f r : ℕ) (below : r < 2 ^ low) (m-fits : m < 8) (f-fits : f 
           let l : k < low = leb-false low k p in
           bit-below low (a * 8 + f) r k l ∙ sym (bit-below low (a * 8 + m) r k l)
 
--- the code's arithmetic: x is the register, y the new one
-pub edited : (low f x y : ℕ) → y ≡ (x / 2 ^ low / 8 * 8 + f) * 2 ^ low + x % 2 ^ low → y < 2 ^ 16 → f < 8 → y ≡ withField low f x
-unfolding withField
-edited low f x y e h g = is-of-bits 16 y (λ k. cond (inField low k) (bit (k - low) f) (bit k x)) h each
-  where
-    p : 0 < 2 ^ low
-    p = pow-pos low
-
-    whole : x ≡ (x / 2 ^ low / 8 * 8 + x / 2 ^ low % 8) * 2 ^ low + x % 2 ^ low
-    whole = sym (ap (λ (q : ℕ). q * 2 ^ low + x % 2 ^ low) (div-add-mod' (x / 2 ^ low) 8) ∙ div-add-mod' x (2 ^ low))
-
-    each : (k : ℕ) → k < 16 → bit k y ≡ cond (inField low k) (bit (k - low) f) (bit k x)
-    each k l =
-        ap (bit k) e
-        ∙ edited-bit low (x / 2 ^ low / 8) (x / 2 ^ low % 8) f (x % 2 ^ low) (mod-lt x p) (mod-lt (x / 2 ^ low) (omega arith)) g k
-        ∙ ap (λ (z : ℕ). cond (inField low k) (bit (k - low) f) (bit k z)) (sym whole)
-
--- a field out of range, and one in it
+-- a field out of range
 pub edit-refused : (low greatest f x : ℕ) → greatest < f → refused (number 12) ≡ edit low greatest f x
 unfolding edit
 edit-refused low greatest f x h = rw (lt-leb f greatest h)
 
-pub edit-served : (low greatest f x y : ℕ) → f ≤ greatest → y ≡ withField low f x → served y ≡ edit low greatest f x
-unfolding edit
-edit-served low greatest f x y h e = rw (le-leb f greatest h, e)
+-- a field in it, and the code's arithmetic: x is the register
+pub edit-served : (low greatest f x : ℕ) → f ≤ greatest → greatest < 8 → x - x / 2 ^ low % 8 * 2 ^ low + f * 2 ^ low < 2 ^ 16
+    → served (x - x / 2 ^ low % 8 * 2 ^ low + f * 2 ^ low) ≡ edit low greatest f x
+unfolding edit withField
+edit-served low greatest f x h g fits = rw (le-leb f greatest h) (ap served (is-of-bits 16 y (λ k. cond (inField low k) (bit (k - low) f) (bit k x)) fits each))
+  where
+    u : ℕ
+    u = 2 ^ low
+
+    a : ℕ
+    a = x / 2 ^ low / 8
+
+    y : ℕ
+    y = x - x / 2 ^ low % 8 * 2 ^ low + f * 2 ^ low
+
+    whole : (a * 8 + x / 2 ^ low % 8) * 2 ^ low + x % 2 ^ low ≡ x
+    whole = ap (λ (q : ℕ). q * 2 ^ low + x % 2 ^ low) (div-add-mod' (x / 2 ^ low) 8) ∙ div-add-mod' x (2 ^ low)
+
+    code : y ≡ (a * 8 + f) * 2 ^ low + x % 2 ^ low
+    code = omega (arith, whole, add-mul (a * 8) (x / 2 ^ low % 8) (2 ^ low), add-mul (a * 8) f (2 ^ low))
+
+    each : (k : ℕ) → k < 16 → bit k y ≡ cond (inField low k) (bit (k - low) f) (bit k x)
+    each k l =
+        ap (bit k) code
+        ∙ edited-bit low a (x / 2 ^ low % 8) f (x % 2 ^ low) (mod-lt x (pow-pos low)) (mod-lt (x / 2 ^ low) (omega arith)) (omega arith) k
+        ∙ ap (λ (z : ℕ). cond (inField low k) (bit (k - low) f) (bit k z)) whole
 
 -- bit k of the number that bits make is the kth
 bit-of-bits : (n : ℕ) (f : ℕ → ℕ) → ((k : ℕ) → f k < 2) → (k : ℕ) → k < n → bit k (ofBits n f) ≡ f k
