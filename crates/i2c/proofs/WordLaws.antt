@@ -1,6 +1,6 @@
 -- Words along a list of bytes, one word further at a time: what the loops over slices need. Assumes nothing.
 use mathlib.Core.Path.{_≡_, refl, sym, ap, _∙_}
-use mathlib.Core.List.{List, [], _∷_, _++_}
+use mathlib.Core.List.{List, [], _∷_}
 use Prim.Native.Nat.{ℕ, suc, _+_, _*_, _/_, _%_, _<_, _≤_}
 use native.Mathlib.Numerals.{towards-suc, add-one, add-two, add-three}
 use native.Mathlib.Nat.{zero-add}
