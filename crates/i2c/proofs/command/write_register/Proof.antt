@@ -9,9 +9,6 @@ use Rattle.i2c.proofs.command.write_register.Tie as tie
 returns : tie.Need-returns
 returns c = no-room _ _ (c .if1 .taken)
 
-slice-write-out-2 : tie.Need-slice-write-out-2
-slice-write-out-2 c = simp length-set (omega arith)
-
 returns-2 : tie.Need-returns-2
 returns-2 c = register-all _ _ _ _ _ (c .before .high .ensures) (c .low .ensures) (c .before .before .if1 .left)
 
@@ -22,7 +19,7 @@ write-register-spec =
     returns
     (λ c. search needs)
     (λ c κs. search needs)
-    slice-write-out-2
+    (λ c. simp length-set (omega arith))
     (λ c κs. search needs)
     (λ c. search needs)
     (λ c. search needs)

@@ -12,15 +12,6 @@ returns c = taking-too-much _ _ _ (c .if1 .taken)
 returns-2 : tie.Need-returns-2
 returns-2 c = taking-no-room _ _ _ (c .before .if1 .left) (c .if2 .taken)
 
-slice-write-out-2 : tie.Need-slice-write-out-2
-slice-write-out-2 c = simp length-set (omega arith)
-
-slice-write-out-3 : tie.Need-slice-write-out-3
-slice-write-out-3 c = simp length-set (omega arith)
-
-slice-write-out-4 : tie.Need-slice-write-out-4
-slice-write-out-4 c = simp length-set (omega arith)
-
 returns-3 : tie.Need-returns-3
 returns-3 c =
     let l = c .before .before .before in
@@ -40,9 +31,9 @@ write-taking-spec =
     (λ c. search needs)
     (λ c κs. search needs)
     (λ c. search needs)
-    slice-write-out-2
-    slice-write-out-3
-    slice-write-out-4
+    (λ c. simp length-set (omega arith))
+    (λ c. simp length-set (omega arith))
+    (λ c. simp length-set (omega arith))
     (λ c κs. search needs)
     (λ c. search needs)
     (λ c. search needs)
