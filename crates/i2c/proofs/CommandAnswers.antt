@@ -7,6 +7,7 @@ use lib.Seq.{sets}
 use borrow.Author.Tests.{le-leb, lt-leb}
 use Rattle.refusal.specs.Refusals.{number, served}
 use Rattle.refusal.specs.Room.{emit}
+use Rattle.refusal.proofs.Room.{emit-refused, emit-served}
 use Rattle.i2c.specs.Answer.{Outcome, refuse}
 use Rattle.i2c.specs.Crc.{crcOf}
 use Rattle.i2c.specs.Word.{wordBytes}
@@ -14,15 +15,14 @@ use Rattle.i2c.specs.Command.{alone, _taking_, asked, pair, writeSfc6, l
 use Rattle.i2c.specs.declared.command.Sfc6.{Sfc6}
 use Rattle.i2c.specs.declared.command.Liquid.{Liquid}
 use Rattle.i2c.proofs.WordLaws.{overlay-sets}
-use Rattle.i2c.proofs.WordAnswers.{store-none, store-all}
 
 -- bytes of a known count
 module _ (xs lent : List ℕ) where
   pub no-room : length lent < length xs → refuse (number 1) lent ≡ emit xs lent
-  no-room h = sym (store-none xs lent (length xs) refl h)
+  no-room h = sym (emit-refused xs lent h)
 
   pub all-stored : length xs ≤ length lent → (served (length xs), sets lent 0 xs) ≡ emit xs lent
-  all-stored h = rw (overlay-sets xs lent h) (sym (store-all xs lent (length xs) refl h))
+  all-stored h = rw (overlay-sets xs lent h) (sym (emit-served xs lent h))
 
 module _ (code : ℕ) (lent : List ℕ) where
   pub alone-no-room : length lent < 2 → refuse (number 1) lent ≡ writeSfc6 (alone code) lent
