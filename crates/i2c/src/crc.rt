@@ -3,8 +3,8 @@ ghost use mathlib.Core.Path.{_≡_};
 ghost use Rattle.i2c.specs.Crc.{bitSteps, byteStep, crcOf};
 
 // Eight bits at once. The polynomial says that x^8 is x^5 + x^4 + 1, so eight bit steps are the byte, the byte moved left by 4 and the
-// byte moved left by 5. What runs over the top is moved again: it is added to the byte first, x / 8 and x / 16 from the byte itself
-// and x / 64 from what x / 8 makes run over. The remainders keep what the last moves leave below the top.
+// byte moved left by 5. What runs over the top is to be moved likewise, so it is added to the byte first: x / 8 and x / 16 run over, and
+// x / 64 is what these two make run over. The remainders take off what would run over.
 fn folded(x: u8) -> u8
     ensures { λ r. ⌜ r ≡ bitSteps 8 x ⌝ }
 {
