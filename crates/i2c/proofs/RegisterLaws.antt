@@ -50,11 +50,13 @@ edit-served low greatest f x y h e = rw (le-leb f greatest h, e)
 -- the code's arithmetic with the register x: what lies below the field, the field, and what lies above it
 pub user-served : (f x : ℕ) → f ≤ 4 → x < 2 ^ 16 → served (x - x / 16 % 8 * 16 + f * 16) ≡ edit 4 4 f x
 unfolding withField ofBits inField
-user-served f x h g = edit-served 4 4 f x (x - x / 16 % 8 * 16 + f * 16) h (omega (arith, own-bits 4 x, own-bits 3 f, bits-above 9 7 x))
+user-served f x h g =
+    edit-served 4 4 f x (x - x / 16 % 8 * 16 + f * 16) h (omega (arith, own-bits 4 x, own-bits 3 f, bits-above 9 7 x))
 
 pub advanced-served : (f x : ℕ) → f ≤ 7 → x < 2 ^ 16 → served (x - x / 512 % 8 * 512 + f * 512) ≡ edit 9 7 f x
 unfolding withField ofBits inField
-advanced-served f x h g = edit-served 9 7 f x (x - x / 512 % 8 * 512 + f * 512) h (omega (arith, own-bits 9 x, own-bits 3 f, bits-above 4 12 x))
+advanced-served f x h g =
+    edit-served 9 7 f x (x - x / 512 % 8 * 512 + f * 512) h (omega (arith, own-bits 9 x, own-bits 3 f, bits-above 4 12 x))
 
 -- bit k of the number that bits make is the kth
 bit-of-bits : (n : ℕ) (f : ℕ → ℕ) → ((k : ℕ) → f k < 2) → (k : ℕ) → k < n → bit k (ofBits n f) ≡ f k
