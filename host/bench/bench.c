@@ -37,7 +37,25 @@ static size_t smaller(size_t a, size_t b)
     return a < b ? a : b;
 }
 
-static void feed_library(void)
+static struct plain_fed feed_library_once(const uint8_t *piece, size_t n)
+{
+    mfc_fed fed = mfc_feed(record, sizeof record, piece, n, frame, sizeof frame);
+
+    return (struct plain_fed){ fed.refusal, fed.frame_length, fed.taken };
+}
+
+static struct plain_fed feed_plain_once(const uint8_t *piece, size_t n)
+{
+    return plain_feed(&receiver, piece, n, plain_frame, sizeof plain_frame);
+}
+
+static struct plain_fed feed_own_once(const uint8_t *piece, size_t n)
+{
+    return plain_feed_own(&receiver, piece, n);
+}
+
+/* The whole traffic in pieces. It is laid into each of the three below, so that the calls are direct ones. */
+static inline void feed_all(struct plain_fed (*once)(const uint8_t *, size_t))
 {
     size_t frames = 0;
 
@@ -46,7 +64,7 @@ static void feed_library(void)
         size_t left = smaller(wire.piece, wire.n - at);
 
         while (left > 0) {
-            mfc_fed fed = mfc_feed(record, sizeof record, piece, left, frame, sizeof frame);
+            struct plain_fed fed = once(piece, left);
 
             frames += fed.frame_length;
             piece += fed.taken;
@@ -56,43 +74,9 @@ static void feed_library(void)
     sink = frames;
 }
 
-static void feed_plain(void)
-{
-    size_t frames = 0;
-
-    for (size_t at = 0; at < wire.n; at += wire.piece) {
-        const uint8_t *piece = wire.bytes + at;
-        size_t left = smaller(wire.piece, wire.n - at);
-
-        while (left > 0) {
-            struct plain_fed fed = plain_feed(&receiver, piece, left, plain_frame, sizeof plain_frame);
-
-            frames += fed.frame_length;
-            piece += fed.taken;
-            left -= fed.taken;
-        }
-    }
-    sink = frames;
-}
-
-static void feed_own(void)
-{
-    size_t frames = 0;
-
-    for (size_t at = 0; at < wire.n; at += wire.piece) {
-        const uint8_t *piece = wire.bytes + at;
-        size_t left = smaller(wire.piece, wire.n - at);
-
-        while (left > 0) {
-            struct plain_fed fed = plain_feed_own(&receiver, piece, left);
-
-            frames += fed.frame_length;
-            piece += fed.taken;
-            left -= fed.taken;
-        }
-    }
-    sink = frames;
-}
+static void feed_library(void) { feed_all(feed_library_once); }
+static void feed_plain(void) { feed_all(feed_plain_once); }
+static void feed_own(void) { feed_all(feed_own_once); }
 
 /* A round's requests, each into the room left behind the one before. */
 static void requests_library(void)
