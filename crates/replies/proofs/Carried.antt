@@ -1,8 +1,8 @@
 -- What a reply carries, where it is known not to be of one form. Assumes nothing.
 use mathlib.Core.Path.{_≡_, refl, sym, ap, subst, _∙_}
 use mathlib.Core.Bool.{Bool, true, false, cond, _||_}
-use mathlib.Core.List.{List, [], _∷_}
-use Prim.Native.Nat.{ℕ, _+_, _≤_, _<_}
+use mathlib.Core.List.{List, [], _∷_, foldr}
+use Prim.Native.Nat.{ℕ, _+_, min, _≤_, _<_}
 use native.Mathlib.Omega.{arith}
 use lib.Dec.{T, eqb, ltb}
 use lib.ListN.{length}
@@ -19,11 +19,10 @@ use Rattle.replies.specs.declared.Content.{Content}
 use Rattle.replies.specs.declared.Content.the-variants.{Nothing, Float, U16, U32, Validity, Address, Baud, Text, Error}
 use Rattle.replies.specs.Replies.{outOfRange, notFinite, badFloat}
 use Rattle.replies.specs.Writer.{badText, dataOf, codeOf, stateOf}
-use Rattle.replies.specs.Reader.{textIn}
 use Rattle.replies.proofs.Reading as reading-type
 use Rattle.replies.proofs.Content as content-type
 use Rattle.replies.proofs.Apart.{apart, without}
-use Rattle.replies.proofs.Text.{holds-zero}
+use Rattle.replies.proofs.Text.{smallest-zero}
 
 abbrev pub forms : ℕ → List ℕ
 forms k = without k (0 ∷ 1 ∷ 2 ∷ 3 ∷ 4 ∷ 5 ∷ 6 ∷ 7 ∷ 8 ∷ [])
@@ -88,8 +87,8 @@ module _ (c : Content) (text : List ℕ) (is : c ≡ Text) where
   pub text-long : 254 < length text → true ≡ badText c text
   text-long h = rw is (simp (lt-ltb _ _ h))
 
-  pub text-held : {n : ℕ} → length text ≤ 254 → n ≡ length (textIn text) → ltb n (length text) ≡ badText c text
-  text-held h e = rw (is, e) (simp (le-ltb _ _ h) (holds-zero text))
+  pub text-held : {n : ℕ} → length text ≤ 254 → n ≡ foldr min 255 text → eqb n 0 ≡ badText c text
+  text-held h e = rw (is, e) (simp (le-ltb _ _ h) (smallest-zero text))
 
 -- the data, where it is known what is carried
 module _ {c known : Content} (is : c ≡ known) (text : List ℕ) where

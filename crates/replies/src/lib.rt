@@ -11,7 +11,8 @@ use shdlc::Kind;
 use shdlc::Written;
 ghost use mathlib.Core.Path.{_≡_};
 ghost use mathlib.Core.Bool.{true, false, cond, not};
-ghost use mathlib.Core.List.{[], _∷_, _++_};
+ghost use mathlib.Core.List.{[], _∷_, _++_, foldr};
+ghost use mathlib.Core.Option.{Option·getD};
 ghost use Prim.Native.Nat.{_+_, _-_, _^_, _≤_, _<_, min};
 ghost use lib.Dec.{ltb};
 ghost use lib.ListN.{length, take, drop};
@@ -225,6 +226,21 @@ fn text_len(bytes: &[u8]) -> usize
     i
 }
 
+// The smallest byte, 255 of none. All bytes are looked at: without an early end the compiler takes many at once.
+fn smallest(bytes: &[u8]) -> u8
+    ensures { λ r. ⌜ r ≡ foldr min 255 (now (bytes .entry)) ⌝ }
+{
+    let mut least: u8 = 255;
+    let mut i: usize = 0;
+    while i < bytes.len() {
+        if bytes[i] < least {
+            least = bytes[i];
+        }
+        i += 1;
+    }
+    least
+}
+
 // 12: a text that holds a 00 or is over 254 bytes.
 fn bad_text(content: Content, text: &[u8]) -> bool
     ensures { λ r. ⌜ r ≡ badText content (now (text .entry)) ⌝ }
@@ -235,7 +251,7 @@ fn bad_text(content: Content, text: &[u8]) -> bool
     if text.len() > 254 {
         return true;
     }
-    text_len(text) < text.len()
+    smallest(text) == 0
 }
 
 // A reply of the kind that the request expects is taken apart, and an error answer always. Any other kind is 14.
@@ -567,24 +583,34 @@ fn read_number(request: Request, n: u32, bit7: bool) -> ReadReply
     ReadReply::Value(reply, bit7)
 }
 
-// What the data of a reply stand for, once their length is settled.
+// The number that the data stand for; 0 where they are none or a text.
+fn number_of(answer: Answer, body: &[u8]) -> u32
+    requires { ⌜ 4 + Option·getD (sizeOf answer) 0 ≤ length (now body) ⌝ }
+    ensures { λ r. ⌜ r ≡ big (take (Option·getD (sizeOf answer) 0) (drop 4 (now (body .entry)))) ⌝ }
+{
+    match answer {
+        Answer::Nothing => 0,
+        Answer::Float => number_in(body, Width::Four),
+        Answer::U16 => number_in(body, Width::Two),
+        Answer::U32 => number_in(body, Width::Four),
+        Answer::Validity => number_in(body, Width::One),
+        Answer::Address => number_in(body, Width::One),
+        Answer::Baud => number_in(body, Width::Four),
+        Answer::Text => 0,
+    }
+}
+
+// What the data of a reply stand for, once their length is settled. `read_number` is called at one place, so that
+// the compiler inlines it.
 fn read_data(request: Request, answer: Answer, body: &[u8], bit7: bool) -> ReadReply
     requires { ⌜ (answer ≡ row request .answer) × (isSize (sizeOf answer) (length (now body) - 5) ≡ true) × (5 ≤ length (now body)) ⌝ }
     ensures { λ r. ⌜ paperRead r ≡ withBit7 (inOrder (valueChecks (replyTo request (big (dataIn (now (body .entry)))))) (gotBy (sizeOf answer) request (dataIn (now (body .entry))))) bit7 ⌝ }
 {
-    match answer {
-        Answer::Nothing => read_number(request, 0, bit7),
-        Answer::Float => read_number(request, number_in(body, Width::Four), bit7),
-        Answer::U16 => read_number(request, number_in(body, Width::Two), bit7),
-        Answer::U32 => read_number(request, number_in(body, Width::Four), bit7),
-        Answer::Validity => read_number(request, number_in(body, Width::One), bit7),
-        Answer::Address => read_number(request, number_in(body, Width::One), bit7),
-        Answer::Baud => read_number(request, number_in(body, Width::Four), bit7),
-        Answer::Text => {
-            let end = body.len() - 1;
-            ReadReply::Text(4, text_len(&body[4..end]), bit7)
-        }
+    if let Answer::Text = answer {
+        let end = body.len() - 1;
+        return ReadReply::Text(4, text_len(&body[4..end]), bit7);
     }
+    read_number(request, number_of(answer, body), bit7)
 }
 
 // Reads the unstuffed body of the reply to a request, checksum included.

@@ -14,4 +14,4 @@ bad-text-spec =
     (λ c κs. search needs)
     (λ c. let b = c .before .before in
     let a = b .before .before .before .args in
-    text-held (a .content) (a .text .now) (b .enum-told .given .1) (c .before .if1 .left) (c .text-len .ensures)))
+    text-held (a .content) (a .text .now) (b .enum-told .given .1) (c .before .if1 .left) (c .smallest .ensures)))
