@@ -86,7 +86,7 @@ pub enum ReadReply {
 }
 
 // The bits that a reading is sent by.
-fn bits(x: Reading) -> u32
+pub fn bits_of_reading(x: Reading) -> u32
     ensures { λ r. ⌜ r ≡ bitsOf x ⌝ }
 {
     match x {
@@ -97,8 +97,8 @@ fn bits(x: Reading) -> u32
     }
 }
 
-// The reading of its bits.
-fn reading_of(bits: u32) -> Reading
+// The reading of its bits: one of the three codings, else the float of the bits.
+pub fn reading_of(bits: u32) -> Reading
     ensures { λ r. ⌜ r ≡ readingOf bits ⌝ }
 {
     match bits {
@@ -110,13 +110,13 @@ fn reading_of(bits: u32) -> Reading
 }
 
 // A number cut to the largest that two bytes hold, and one byte. Data of the table's length are never cut.
-fn cut_u16(n: u32) -> u16
+pub fn capped_u16(n: u32) -> u16
     ensures { λ r. ⌜ r ≡ min n 65535 ⌝ }
 {
     if n < 65535 { n as u16 } else { 65535 }
 }
 
-fn cut_u8(n: u32) -> u8
+pub fn capped_u8(n: u32) -> u8
     ensures { λ r. ⌜ r ≡ min n 255 ⌝ }
 {
     if n < 255 { n as u8 } else { 255 }
@@ -131,14 +131,14 @@ fn reply_to(request: Request, n: u32) -> Reply
         Request::MeasuredValue => Reply::MeasuredValue(reading_of(n)),
         Request::GetGain => Reply::Gain(reading_of(n)),
         Request::GetInitStep => Reply::InitStep(reading_of(n)),
-        Request::RawFlow => Reply::RawFlow(cut_u16(n)),
-        Request::RawConductivity => Reply::RawConductivity(cut_u16(n)),
+        Request::RawFlow => Reply::RawFlow(capped_u16(n)),
+        Request::RawConductivity => Reply::RawConductivity(capped_u16(n)),
         Request::Temperature => Reply::Temperature(reading_of(n)),
         Request::NumberOfCalibrations => Reply::NumberOfCalibrations(n),
-        Request::Validity(_) => Reply::Validity(cut_u8(n)),
+        Request::Validity(_) => Reply::Validity(capped_u8(n)),
         Request::FullScale => Reply::FullScale(reading_of(n)),
         Request::GetCalibration => Reply::Calibration(n),
-        Request::GetAddress => Reply::Address(cut_u8(n)),
+        Request::GetAddress => Reply::Address(capped_u8(n)),
         Request::GetBaud => Reply::Baud(n),
         Request::ProductType => Reply::ProductType,
         Request::SetSetpoint(_)
@@ -434,7 +434,7 @@ fn put_data(out: &mut [u8], place: usize, content: Content, text: &[u8]) -> usiz
 {
     match content {
         Content::Nothing => place,
-        Content::Float(x) => put_number(out, place, bits(x), Width::Four),
+        Content::Float(x) => put_number(out, place, bits_of_reading(x), Width::Four),
         Content::U16(n) => put_number(out, place, wide16(n), Width::Two),
         Content::U32(n) => put_number(out, place, n, Width::Four),
         Content::Validity(v) => put_number(out, place, wide8(v), Width::One),

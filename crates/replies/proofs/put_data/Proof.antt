@@ -36,7 +36,7 @@ put-data-spec =
     (λ c. search needs)
     (λ c. nothing-put (c .enum-told .given .1) (c .before .before .before .before .args .text .now) _ _ refl)
     (λ c. search needs)
-    (λ c. let p = c .before .before in let t = p .before .before .before .before in number-put (t .content .given .1) (t .before .before .before .before .args .text .now) 4 _ _ _ _ _ _ (p .before .bits .ensures) refl (p .put-number .ensures))
+    (λ c. let p = c .before .before in let t = p .before .before .before .before in number-put (t .content .given .1) (t .before .before .before .before .args .text .now) 4 _ _ _ _ _ _ (p .before .bits-of-reading .ensures) refl (p .put-number .ensures))
     (λ c. search needs)
     (λ c. let p = c .before .before in let t = p .before .before .before .before in number-put (t .content2 .given .1) (t .before .before .before .before .args .text .now) 2 _ _ _ _ _ _ (p .before .wide16 .ensures .0) refl (p .put-number2 .ensures))
     (λ c. search needs)
