@@ -419,23 +419,23 @@ uint8_t plain_crc(uint8_t start, const uint8_t *bytes, size_t n)
     return crc;
 }
 
-/* A step without the table. The polynomial says that x^8 is x^5 + x^4 + 1, so eight places to the left is the byte, and the
-   byte moved by 4 and by 5; what runs over the top is moved again, twice at most. That beats eight steps of one bit. */
+/* A step without the table. The polynomial says that x^8 is x^5 + x^4 + 1, so eight places to the left is the byte, the byte moved
+   by 4 and the byte moved by 5. What runs over the top is to be moved likewise, so it is added to the byte first: byte >> 3 and
+   byte >> 4 run over, and byte >> 6 is what these two make run over. That beats eight steps of one bit. */
 static inline uint8_t step_folded(unsigned byte)
 {
-    unsigned once = byte << 5 ^ byte << 4, over = once >> 8;
-    unsigned twice = over << 5 ^ over << 4, last = twice >> 8;
+    unsigned all = (byte ^ byte >> 3) ^ (byte >> 4 ^ byte >> 6);
 
-    return (uint8_t)(byte ^ once ^ over ^ twice ^ last ^ last << 4 ^ last << 5);
+    return (uint8_t)(all ^ all << 4 ^ all << 5);
 }
 
 uint8_t plain_crc_folded(uint8_t start, const uint8_t *bytes, size_t n)
 {
-    uint8_t crc = start;
+    unsigned crc = start;
 
     for (size_t i = 0; i < n; i++)
         crc = step_folded(crc ^ bytes[i]);
-    return crc;
+    return (uint8_t)crc;
 }
 
 /* All words are checked before one is stored; the bytes are then at hand and the second pass costs little. */

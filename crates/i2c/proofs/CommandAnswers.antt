@@ -1,11 +1,9 @@
 -- The answers of the command writers: one law for each `return`. Assumes nothing.
-use mathlib.Core.Path.{_≡_, refl, sym, ap, _∙_}
+use mathlib.Core.Path.{_≡_, sym, ap, _∙_}
 use mathlib.Core.List.{List, [], _∷_, _++_}
 use Prim.Native.Nat.{ℕ, _/_, _%_, _≤_, _<_}
-use lib.ListN.{length, set}
-use lib.Seq.{sets}
 use borrow.Author.Tests.{le-leb, lt-leb}
-use Rattle.refusal.specs.Refusals.{number, served}
+use Rattle.refusal.specs.Refusals.{number}
 use Rattle.refusal.specs.Room.{emit}
 use Rattle.i2c.specs.Answer.{Outcome, refuse}
 use Rattle.i2c.specs.Crc.{crcOf}
@@ -13,44 +11,25 @@ use Rattle.i2c.specs.Word.{wordBytes}
 use Rattle.i2c.specs.Command.{alone, _taking_, asked, pair, writeSfc6, liquidBytes}
 use Rattle.i2c.specs.declared.command.Sfc6.{Sfc6}
 use Rattle.i2c.specs.declared.command.Liquid.{Liquid}
-use Rattle.i2c.proofs.WordLaws.{overlay-sets}
-use Rattle.i2c.proofs.WordAnswers.{store-none, store-all}
 
--- bytes of a known count
-module _ (xs lent : List ℕ) where
-  pub no-room : length lent < length xs → refuse (number 1) lent ≡ emit xs lent
-  no-room h = sym (store-none xs lent (length xs) refl h)
-
-  pub all-stored : length xs ≤ length lent → (served (length xs), sets lent 0 xs) ≡ emit xs lent
-  all-stored h = rw (overlay-sets xs lent h) (sym (store-all xs lent (length xs) refl h))
-
-module _ (code : ℕ) (lent : List ℕ) where
-  pub alone-no-room : length lent < 2 → refuse (number 1) lent ≡ writeSfc6 (alone code) lent
+-- bytes that were computed, written: the parts of a code, of a register's value, and of a concentration with its CRC
+module _ (lent : List ℕ) {o : Outcome} where
+  pub alone-written : (code u v : ℕ) → u ≡ code / 256 → v ≡ code % 256 → o ≡ emit (u ∷ v ∷ []) lent → o ≡ writeSfc6 (alone code) lent
   unfolding writeSfc6
-  alone-no-room h = no-room (pair code) lent h
+  alone-written code u v e f p = p ∙ rw (e, f)
 
-  pub alone-all : (u v : ℕ) → u ≡ code / 256 → v ≡ code % 256 → 2 ≤ length lent → (served 2, set (set lent 0 u) 1 v) ≡ writeSfc6 (alone code) lent
-  unfolding writeSfc6
-  alone-all u v e f h = rw (e, f) (all-stored (pair code) lent h)
+  pub register-written : (code value u v : ℕ) → u ≡ value / 256 → v ≡ value % 256 → o ≡ emit (code ∷ u ∷ v ∷ []) lent
+      → o ≡ emit (code ∷ pair value) lent
+  register-written code value u v e f p = p ∙ rw (e, f)
 
-  module _ (x : ℕ) where
-    pub taking-too-much : 1000 < x → refuse (number 12) lent ≡ writeSfc6 (code taking x) lent
-    unfolding writeSfc6
-    taking-too-much h = rw (lt-leb x 1000 h)
+  pub taking-written : (code x s t u v w : ℕ) → x ≤ 1000 → s ≡ code / 256 → t ≡ code % 256 → u ≡ x / 256 → v ≡ x % 256
+      → w ≡ crcOf 0xFF (u ∷ v ∷ []) → o ≡ emit (s ∷ t ∷ u ∷ v ∷ w ∷ []) lent → o ≡ writeSfc6 (code taking x) lent
+  unfolding writeSfc6 wordBytes
+  taking-written code x s t u v w fine a b d e f p = p ∙ rw (le-leb x 1000 fine, f, a, b, d, e)
 
-    module _ (fine : x ≤ 1000) where
-      pub taking-no-room : length lent < 5 → refuse (number 1) lent ≡ writeSfc6 (code taking x) lent
-      unfolding writeSfc6 wordBytes
-      taking-no-room h = rw (le-leb x 1000 fine) (no-room (pair code ++ wordBytes 0xFF x) lent h)
-
-      pub taking-all : (s t u v w : ℕ) → s ≡ code / 256 → t ≡ code % 256 → u ≡ x / 256 → v ≡ x % 256 → w ≡ crcOf 0xFF (u ∷ v ∷ []) → 5 ≤ length lent
-          → (served 5, set (set (set (set (set lent 0 s) 1 t) 2 u) 3 v) 4 w) ≡ writeSfc6 (code taking x) lent
-      unfolding writeSfc6 wordBytes
-      taking-all s t u v w a b d e f h = rw (le-leb x 1000 fine, f, a, b, d, e) (all-stored (pair code ++ wordBytes 0xFF x) lent h)
-
-pub register-all : (code value u v : ℕ) (lent : List ℕ) → u ≡ value / 256 → v ≡ value % 256 → 3 ≤ length lent
-    → (served 3, set (set (set lent 0 code) 1 u) 2 v) ≡ emit (code ∷ pair value) lent
-register-all code value u v lent e f h = rw (e, f) (all-stored (code ∷ pair value) lent h)
+pub taking-too-much : (code x : ℕ) (lent : List ℕ) → 1000 < x → refuse (number 12) lent ≡ writeSfc6 (code taking x) lent
+unfolding writeSfc6
+taking-too-much code x lent h = rw (lt-leb x 1000 h)
 
 -- an arm of a `match`: what holds of the command that the arm is told holds of the command given
 pub sfc6-arm : {command told : Sfc6} (lent : List ℕ) {x : Outcome} → command ≡ told → x ≡ writeSfc6 (asked told) lent

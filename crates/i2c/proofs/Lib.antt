@@ -4,7 +4,6 @@ pub mod WordAnswers
 pub mod CommandAnswers
 pub mod RegisterLaws
 pub mod Xor
-pub mod Linear
 pub mod OneToOne
 pub mod RoundTrip
 pub mod Families

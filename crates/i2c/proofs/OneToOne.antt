@@ -2,7 +2,6 @@
 use mathlib.Core.Path.{_≡_, refl, sym, ap, _∙_}
 use mathlib.Core.Bool.{cond}
 use lib.Dec.{eqb}
-use Rattle.refusal.specs.Refusals.{paper}
 use Rattle.refusal.proofs.OneToOne.{paper-one-to-one}
 use Rattle.i2c.specs.Answer.{paperStored}
 use Rattle.i2c.specs.Command.{Asked, alone, _taking_, asked}
@@ -18,17 +17,13 @@ pub stored-one-to-one : (a b : Stored) → paperStored a ≡ paperStored b → a
 stored-one-to-one (stored.Count m) (stored.Count n) e = cc
 stored-one-to-one (stored.Count m) (stored.Refused s) e = cc
 stored-one-to-one (stored.Refused r) (stored.Count n) e = cc
-stored-one-to-one (stored.Refused r) (stored.Refused s) e =
-    let p : paper r ≡ paper s = cc in
-    ap stored.Refused (paper-one-to-one r s p)
+stored-one-to-one (stored.Refused r) (stored.Refused s) e = ap stored.Refused (paper-one-to-one r s (cc))
 
 pub edited-one-to-one : (a b : Edited) → paperEdited a ≡ paperEdited b → a ≡ b
 edited-one-to-one (edited.Value m) (edited.Value n) e = cc
 edited-one-to-one (edited.Value m) (edited.Refused s) e = cc
 edited-one-to-one (edited.Refused r) (edited.Value n) e = cc
-edited-one-to-one (edited.Refused r) (edited.Refused s) e =
-    let p : paper r ≡ paper s = cc in
-    ap edited.Refused (paper-one-to-one r s p)
+edited-one-to-one (edited.Refused r) (edited.Refused s) e = ap edited.Refused (paper-one-to-one r s (cc))
 
 back : Asked → Sfc6
 back (alone code) = cond (eqb code 0xE102) PointToTemperature (cond (eqb code 0xE000) PointBack (cond (eqb code 0x3FEF) ShutValve NormalControl))

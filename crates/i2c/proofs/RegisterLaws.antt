@@ -1,14 +1,11 @@
 -- Bits of numbers, and what an edit of a field makes of each. Assumes nothing.
 use mathlib.Core.Path.{_≡_, refl, sym, ap, _∙_}
-use mathlib.Core.Bool.{Bool, true, false, cond, _&&_}
+use mathlib.Core.Bool.{Bool, true, false, cond}
 use Prim.Native.Nat.{ℕ, zero, suc, _+_, _-_, _*_, _/_, _%_, _^_, _≤_, _<_}
-use native.Mathlib.Nat.{div-div-eq-div-mul, pow-suc, pow-succ', div-one, div-add-mod', mod-lt, le-of-suc-le-suc, not-suc-le-zero}
+use native.Mathlib.Nat.{div-div-eq-div-mul, pow-succ', div-one, mod-lt, mul-assoc, le-of-suc-le-suc, not-suc-le-zero}
 use native.Mathlib.Omega.{arith}
-use lib.Arith.{digits-div}
-use lib.Pow.{pow-add, pow-pos}
-use lib.Bits.{block-half, block-odd}
-use lib.Dec.{leb, ltb}
-use borrow.Author.Tests.{leb-true, leb-false, ltb-true, ltb-false, le-leb, lt-leb}
+use lib.Pow.{pow-add}
+use borrow.Author.Tests.{le-leb, lt-leb}
 use Rattle.refusal.specs.Refusals.{number, served, refused}
 use Rattle.i2c.specs.Register.{bit, ofBits, inField, withField, edit}
 
@@ -20,87 +17,46 @@ bit-suc : (k x : ℕ) → bit (suc k) x ≡ bit k (x / 2)
 unfolding bit
 bit-suc k x = ap (λ (y : ℕ). x / y % 2) (pow-succ' 2 k) ∙ ap (λ (y : ℕ). y % 2) (sym (div-div-eq-div-mul x 2 (2 ^ k)))
 
--- a number is the one that its bits make
-pub is-of-bits : (n x : ℕ) (f : ℕ → ℕ) → x < 2 ^ n → ((k : ℕ) → k < n → bit k x ≡ f k) → x ≡ ofBits n f
-unfolding ofBits
-is-of-bits zero x f h same = omega arith
-is-of-bits (suc n) x f h same =
-    let p : 2 ^ suc n ≡ 2 ^ n * 2 = pow-suc 2 n in
-    let low : x % 2 ≡ f 0 = sym (bit-zero x) ∙ same 0 (omega arith) in
-    let high : x / 2 ≡ ofBits n (λ k. f (suc k)) = is-of-bits n (x / 2) (λ k. f (suc k)) (omega arith) (λ k l. sym (bit-suc k x) ∙ same (suc k) (omega arith)) in
-    omega arith
-
--- the bits below 2 ^ n do not see what lies above
-bit-below : (n a r k : ℕ) → k < n → bit k (a * 2 ^ n + r) ≡ bit k r
-bit-below zero a r k h = absurd (not-suc-le-zero h)
-bit-below (suc n) a r zero h = bit-zero (a * 2 ^ suc n + r) ∙ block-odd a n r ∙ sym (bit-zero r)
-bit-below (suc n) a r (suc k) h =
-    bit-suc k (a * 2 ^ suc n + r) ∙ ap (bit k) (block-half a n r) ∙ bit-below n a (r / 2) k (le-of-suc-le-suc h) ∙ sym (bit-suc k r)
-
--- the bits from 2 ^ n on are those of what lies above
-bit-above : (n a r k : ℕ) → r < 2 ^ n → bit (n + k) (a * 2 ^ n + r) ≡ bit k a
+bit-shift : (m k x : ℕ) → bit (m + k) x ≡ bit k (x / 2 ^ m)
 unfolding bit
-bit-above n a r k h =
-    ap (λ (y : ℕ). (a * 2 ^ n + r) / y % 2) (pow-add 2 n k)
-    ∙ ap (λ (y : ℕ). y % 2) (sym (div-div-eq-div-mul (a * 2 ^ n + r) (2 ^ n) (2 ^ k)) ∙ ap (λ (y : ℕ). y / 2 ^ k) (digits-div a h))
+bit-shift m k x = ap (λ (y : ℕ). x / y % 2) (pow-add 2 m k) ∙ ap (λ (y : ℕ). y % 2) (sym (div-div-eq-div-mul x (2 ^ m) (2 ^ k)))
 
--- a register is what lies above its field, the field m and what lies below: with f for m, each bit is as it has to be
-module _ (low a m f r : ℕ) (below : r < 2 ^ low) (m-fits : m < 8) (f-fits : f < 8) where
-  past : (i j : ℕ) → 3 + i ≡ j → bit j (a * 8 + f) ≡ bit j (a * 8 + m)
-  past i j e = ap (λ (k : ℕ). bit k (a * 8 + f)) (sym e) ∙ bit-above 3 a f i f-fits ∙ sym (bit-above 3 a m i m-fits) ∙ ap (λ (k : ℕ). bit k (a * 8 + m)) e
+-- the number that the low bits of another make, and what lies above them
+of-bits : (n x : ℕ) (f : ℕ → ℕ) → ((k : ℕ) → f k ≡ bit k x) → ofBits n f + 2 ^ n * (x / 2 ^ n) ≡ x
+unfolding ofBits
+of-bits zero x f same = omega (arith, div-one x)
+of-bits (suc n) x f same =
+    let h : ℕ = x / 2 in
+    let above : 2 ^ suc n * (x / 2 ^ suc n) ≡ 2 * (2 ^ n * (h / 2 ^ n)) =
+    ap (λ (y : ℕ). y * (x / y)) (pow-succ' 2 n) ∙ rw (← div-div-eq-div-mul x 2 (2 ^ n)) (mul-assoc 2 (2 ^ n) (h / 2 ^ n)) in
+    let low : f 0 ≡ x % 2 = same 0 ∙ bit-zero x in
+    omega (arith, of-bits n h (λ k. f (suc k)) (λ k. same (suc k) ∙ bit-suc k x))
 
-  -- from the field on, j bits past its lowest
-  from : (j k : ℕ) → low + j ≡ k → bit k ((a * 8 + f) * 2 ^ low + r) ≡ cond (ltb k (low + 3)) (bit j f) (bit k ((a * 8 + m) * 2 ^ low + r))
-  from j k e = pick (ltb k (low + 3)) refl
-    where
-      up : (x : ℕ) → bit k (x * 2 ^ low + r) ≡ bit j x
-      up x = ap (λ (y : ℕ). bit y (x * 2 ^ low + r)) (sym e) ∙ bit-above low x r j below
+own-bits : (n x : ℕ) → ofBits n (λ k. bit k x) + 2 ^ n * (x / 2 ^ n) ≡ x
+own-bits n x = of-bits n x (λ k. bit k x) (λ k. refl)
 
-      pick : (t : Bool) → ltb k (low + 3) ≡ t → bit k ((a * 8 + f) * 2 ^ low + r) ≡ cond t (bit j f) (bit k ((a * 8 + m) * 2 ^ low + r))
-      pick true p =
-          let l : k < low + 3 = ltb-true k (low + 3) p in
-          up (a * 8 + f) ∙ bit-below 3 a f j (omega arith)
-      pick false p =
-          let l : low + 3 ≤ k = ltb-false k (low + 3) p in
-          up (a * 8 + f) ∙ past (j - 3) j (omega arith) ∙ sym (up (a * 8 + m))
-
-  pub edited-bit : (k : ℕ) → bit k ((a * 8 + f) * 2 ^ low + r) ≡ cond (inField low k) (bit (k - low) f) (bit k ((a * 8 + m) * 2 ^ low + r))
-  unfolding inField
-  edited-bit k = pick (leb low k) refl
-    where
-      pick : (t : Bool) → leb low k ≡ t → bit k ((a * 8 + f) * 2 ^ low + r) ≡ cond (t && ltb k (low + 3)) (bit (k - low) f) (bit k ((a * 8 + m) * 2 ^ low + r))
-      pick true p =
-          let l : low ≤ k = leb-true low k p in
-          from (k - low) k (omega arith)
-      pick false p =
-          let l : k < low = leb-false low k p in
-          bit-below low (a * 8 + f) r k l ∙ sym (bit-below low (a * 8 + m) r k l)
-
--- the code's arithmetic: x is the register, y the new one
-pub edited : (low f x y : ℕ) → y ≡ (x / 2 ^ low / 8 * 8 + f) * 2 ^ low + x % 2 ^ low → y < 2 ^ 16 → f < 8 → y ≡ withField low f x
-unfolding withField
-edited low f x y e h g = is-of-bits 16 y (λ k. cond (inField low k) (bit (k - low) f) (bit k x)) h each
-  where
-    p : 0 < 2 ^ low
-    p = pow-pos low
-
-    whole : x ≡ (x / 2 ^ low / 8 * 8 + x / 2 ^ low % 8) * 2 ^ low + x % 2 ^ low
-    whole = sym (ap (λ (q : ℕ). q * 2 ^ low + x % 2 ^ low) (div-add-mod' (x / 2 ^ low) 8) ∙ div-add-mod' x (2 ^ low))
-
-    each : (k : ℕ) → k < 16 → bit k y ≡ cond (inField low k) (bit (k - low) f) (bit k x)
-    each k l =
-        ap (bit k) e
-        ∙ edited-bit low (x / 2 ^ low / 8) (x / 2 ^ low % 8) f (x % 2 ^ low) (mod-lt x p) (mod-lt (x / 2 ^ low) (omega arith)) g k
-        ∙ ap (λ (z : ℕ). cond (inField low k) (bit (k - low) f) (bit k z)) (sym whole)
+bits-above : (n m x : ℕ) → ofBits n (λ k. bit (m + k) x) + 2 ^ n * (x / 2 ^ m / 2 ^ n) ≡ x / 2 ^ m
+bits-above n m x = of-bits n (x / 2 ^ m) (λ k. bit (m + k) x) (λ k. bit-shift m k x)
 
 -- a field out of range, and one in it
 pub edit-refused : (low greatest f x : ℕ) → greatest < f → refused (number 12) ≡ edit low greatest f x
 unfolding edit
 edit-refused low greatest f x h = rw (lt-leb f greatest h)
 
-pub edit-served : (low greatest f x y : ℕ) → f ≤ greatest → y ≡ withField low f x → served y ≡ edit low greatest f x
+edit-served : (low greatest f x y : ℕ) → f ≤ greatest → y ≡ withField low f x → served y ≡ edit low greatest f x
 unfolding edit
 edit-served low greatest f x y h e = rw (le-leb f greatest h, e)
+
+-- the code's arithmetic with the register x: what lies below the field, the field, and what lies above it
+pub user-served : (f x : ℕ) → f ≤ 4 → x < 2 ^ 16 → served (x - x / 16 % 8 * 16 + f * 16) ≡ edit 4 4 f x
+unfolding withField ofBits inField
+user-served f x h g =
+    edit-served 4 4 f x (x - x / 16 % 8 * 16 + f * 16) h (omega (arith, own-bits 4 x, own-bits 3 f, bits-above 9 7 x))
+
+pub advanced-served : (f x : ℕ) → f ≤ 7 → x < 2 ^ 16 → served (x - x / 512 % 8 * 512 + f * 512) ≡ edit 9 7 f x
+unfolding withField ofBits inField
+advanced-served f x h g =
+    edit-served 9 7 f x (x - x / 512 % 8 * 512 + f * 512) h (omega (arith, own-bits 9 x, own-bits 3 f, bits-above 4 12 x))
 
 -- bit k of the number that bits make is the kth
 bit-of-bits : (n : ℕ) (f : ℕ → ℕ) → ((k : ℕ) → f k < 2) → (k : ℕ) → k < n → bit k (ofBits n f) ≡ f k

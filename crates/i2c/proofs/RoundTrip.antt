@@ -1,17 +1,18 @@
 -- Words written and read again are the same words, and good bytes read and written again are the same bytes. Assumes nothing.
 use mathlib.Core.Path.{_≡_, refl, sym, ap, ap₂, _∙_}
 use mathlib.Core.Bool.{Bool, true, false, cond}
-use mathlib.Core.List.{List, [], _∷_, _++_}
+use mathlib.Core.List.{List, [], _∷_}
 use Prim.Native.Nat.{ℕ, suc, _+_, _*_, _/_, _%_, _<_}
 use native.Mathlib.Nat.{div-add-mod'}
 use native.Mathlib.Numerals.{add-three}
 use native.Mathlib.Omega.{arith}
 use lib.Arith.{digits-div, digits-mod}
 use lib.Dec.{eqb, ltb}
-use lib.ListN.{length, getD, take, drop}
+use lib.ListN.{length, getD, take}
 use borrow.Author.Tests.{eq-eqb, ne-eqb, eqb-true}
-use Rattle.refusal.specs.Refusals.{Numbered, number, served, refused}
+use Rattle.refusal.specs.Refusals.{number, served}
 use Rattle.refusal.specs.Room.{overlay, emit}
+use Rattle.refusal.proofs.Order.{refused-not-served}
 use Rattle.refusal.proofs.Room.{take-overlay}
 use Rattle.i2c.specs.Answer.{Outcome, refuse}
 use Rattle.i2c.specs.Crc.{crcOf}
@@ -39,19 +40,13 @@ read-back s w ws room =
     let z : length (bytesOf s (w ∷ ws)) ≡ 0 → ⊥ = λ e. omega arith in
     rw (ne-eqb _ _ z, eq-eqb _ _ m, good-back s (w ∷ ws), words-back s (w ∷ ws))
 
--- a refusal is no answer
-pub never : {A : Type 0} (r : Numbered) (n : ℕ) → refused r ≡ served n → A
-never r n e =
-    let z : _≡_ {A = ℕ} 0 1 = cc in
-    absurd (omega arith)
-
 -- as many places of the lent slice as the answer says hold what was stored
 stored-take : (xs lent : List ℕ) (n : ℕ) (last : List ℕ) → emit xs lent ≡ (served n, last) → take n last ≡ xs
 unfolding emit
 stored-take xs lent n last = go (ltb (length lent) (length xs))
   where
     go : (t : Bool) → cond {A = Outcome} t (refuse (number 1) lent) (served (length xs), overlay lent 0 xs) ≡ (served n, last) → take n last ≡ xs
-    go true e = never (number 1) n (ap (λ (o : Outcome). o .0) e)
+    go true e = absurd (refused-not-served (ap (λ (o : Outcome). o .0) e))
     go false e =
         let p : served (length xs) ≡ served n = ap (λ (o : Outcome). o .0) e in
         let q : n ≡ length xs = cc in
@@ -61,7 +56,7 @@ stored-take xs lent n last = go (ltb (length lent) (length xs))
 pub written-read : (s : ℕ) (ws lent room : List ℕ) (n : ℕ) (last : List ℕ) → writeWords s ws lent ≡ (served n, last)
     → readWords s (take n last) room ≡ emit ws room
 unfolding writeWords
-written-read s [] lent room n last e = never (number 16) n (ap (λ (o : Outcome). o .0) e)
+written-read s [] lent room n last e = absurd (refused-not-served (ap (λ (o : Outcome). o .0) e))
 written-read s (w ∷ ws) lent room n last e =
     ap (λ (bs : List ℕ). readWords s bs room) (stored-take (bytesOf s (w ∷ ws)) lent n last e) ∙ read-back s w ws room
 
@@ -75,13 +70,9 @@ bytes-back s (h ∷ l ∷ c ∷ bs) b m g = go (eqb (crcOf s (h ∷ l ∷ [])) c
   where
     all : (k : Check) → later k ≡ allGood → k ≡ allGood
     all allGood e = refl
-    all (wrongAt k) e =
-        let z : _≡_ {A = ℕ} 0 1 = cc in
-        absurd (omega arith)
+    all (wrongAt k) e = cc
 
     go : (t : Bool) → eqb (crcOf s (h ∷ l ∷ [])) c ≡ t → (firstWrong s bs ≡ allGood → bytesOf s (wordsOf bs) ≡ bs)
         → orElse (cond t allGood (wrongAt 0)) (later (firstWrong s bs)) ≡ allGood → bytesOf s (wordsOf (h ∷ l ∷ c ∷ bs)) ≡ h ∷ l ∷ c ∷ bs
     go true e ih k = rw (digits-div h (b 1), digits-mod h (b 1), eqb-true (crcOf s (h ∷ l ∷ [])) c e, ih (all (firstWrong s bs) k))
-    go false e ih k =
-        let z : _≡_ {A = ℕ} 0 1 = cc in
-        absurd (omega arith)
+    go false e ih k = cc

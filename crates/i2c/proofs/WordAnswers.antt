@@ -14,14 +14,6 @@ use Rattle.i2c.specs.declared.word.Checked.{Checked}
 use Rattle.i2c.specs.declared.word.Checked.the-variants.{Good, WrongAt}
 use Rattle.i2c.proofs.WordLaws.{words-count, bytes-count}
 
--- storing as many as were counted: too little room, and enough
-module _ (xs lent : List ℕ) (n : ℕ) (e : length xs ≡ n) where
-  pub store-none : length lent < n → emit xs lent ≡ refuse (number 1) lent
-  store-none h = emit-refused xs lent (omega arith)
-
-  pub store-all : n ≤ length lent → emit xs lent ≡ (served n, overlay lent 0 xs)
-  store-all h = emit-served xs lent (omega arith) ∙ rw e
-
 -- reading words
 module _ (s : ℕ) (bs lent : List ℕ) where
   pub read-empty : length bs ≡ 0 → refuse (number 16) lent ≡ readWords s bs lent
@@ -48,10 +40,10 @@ module _ (s : ℕ) (bs lent : List ℕ) where
         stored = rw good at judged
 
         pub read-no-room : length lent < length bs / 3 → refuse (number 1) lent ≡ readWords s bs lent
-        read-no-room h = sym (store-none (wordsOf bs) lent (length bs / 3) (words-count bs) h) ∙ stored
+        read-no-room h = sym (emit-refused (wordsOf bs) lent (rw words-count h)) ∙ stored
 
         pub read-all : {last : List ℕ} → length bs / 3 ≤ length lent → last ≡ overlay lent 0 (wordsOf bs) → (served (length bs / 3), last) ≡ readWords s bs lent
-        read-all h e = rw e (sym (store-all (wordsOf bs) lent (length bs / 3) (words-count bs) h) ∙ stored)
+        read-all h e = rw (e, ← words-count bs) (sym (emit-served (wordsOf bs) lent (rw words-count h)) ∙ stored)
 
 -- writing words
 pub write-none : (s : ℕ) (ws lent : List ℕ) → length ws ≡ 0 → refuse (number 16) lent ≡ writeWords s ws lent
@@ -66,7 +58,8 @@ write-some s (w ∷ ws) lent h = refl
 
 module _ (s : ℕ) (ws lent : List ℕ) (some : length ws ≡ 0 → ⊥) where
   pub write-no-room : length lent / 3 < length ws → refuse (number 1) lent ≡ writeWords s ws lent
-  write-no-room h = sym (store-none (bytesOf s ws) lent (length ws * 3) (bytes-count s ws) (omega arith)) ∙ write-some s ws lent some
+  write-no-room h = sym (emit-refused (bytesOf s ws) lent (omega (arith, bytes-count s ws))) ∙ write-some s ws lent some
 
   pub write-all : {last : List ℕ} → length ws ≤ length lent / 3 → last ≡ overlay lent 0 (bytesOf s ws) → (served (length ws * 3), last) ≡ writeWords s ws lent
-  write-all h e = rw e (sym (store-all (bytesOf s ws) lent (length ws * 3) (bytes-count s ws) (omega arith)) ∙ write-some s ws lent some)
+  write-all h e =
+      rw (e, ← bytes-count s ws) (sym (emit-served (bytesOf s ws) lent (omega (arith, bytes-count s ws))) ∙ write-some s ws lent some)

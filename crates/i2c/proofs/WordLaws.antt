@@ -1,14 +1,15 @@
 -- Words along a list of bytes, one word further at a time: what the loops over slices need. Assumes nothing.
 use mathlib.Core.Path.{_≡_, refl, sym, ap, _∙_}
-use mathlib.Core.List.{List, [], _∷_, _++_}
+use mathlib.Core.List.{List, [], _∷_}
 use Prim.Native.Nat.{ℕ, suc, _+_, _*_, _/_, _%_, _<_, _≤_}
 use native.Mathlib.Numerals.{towards-suc, add-one, add-two, add-three}
 use native.Mathlib.Nat.{zero-add}
 use native.Mathlib.Omega.{arith}
-use lib.ListN.{length, getD, drop, set, length-drop, drop-of-length-le}
+use lib.ListN.{length, getD, drop, set, length-drop}
 use lib.Seq.{drop-cons, sets, sets-eq}
 use borrow.Author.Tests.{eq-eqb, ne-eqb}
 use Rattle.refusal.specs.Room.{overlay}
+use Rattle.refusal.proofs.Rest.{rest-here, rest-end}
 use Rattle.i2c.specs.Crc.{crcOf}
 use Rattle.i2c.specs.Word.{wordBytes, bytesOf, wordsOf, Check, allGood, wrongAt, checkWord, later, orElse, firstWrong}
 
@@ -90,7 +91,7 @@ words-end bs out a k h p = rw (no-words (drop a bs) (short bs a h)) at p
 bytes-cons : (s : ℕ) (ws : List ℕ) (i : ℕ) → i < length ws → bytesOf s (drop i ws)
     ≡ getD ws i 0 / 256 ∷ getD ws i 0 % 256 ∷ crcOf s (getD ws i 0 / 256 ∷ getD ws i 0 % 256 ∷ []) ∷ bytesOf s (drop (i + 1) ws)
 unfolding bytesOf wordBytes
-bytes-cons s ws i h = rw (add-one, drop-cons ws i 0)
+bytes-cons s ws i h = rw (rest-here ws i h)
 
 pub bytes-more : (s : ℕ) (ws out : List ℕ) (i a u v r : ℕ) {x : List ℕ} → i < length ws → u ≡ getD ws i 0 / 256 → v ≡ getD ws i 0 % 256
     → r ≡ crcOf s (u ∷ v ∷ []) → sets out a (bytesOf s (drop i ws)) ≡ x
@@ -99,7 +100,7 @@ bytes-more s ws out i a u v r h e f g p = rw (g, e, f) (rw (add-three, add-two, 
 
 pub bytes-end : (s : ℕ) (ws out : List ℕ) (i a : ℕ) {x : List ℕ} → length ws ≤ i → sets out a (bytesOf s (drop i ws)) ≡ x → out ≡ x
 unfolding bytesOf
-bytes-end s ws out i a h p = rw (drop-of-length-le ws h) at p
+bytes-end s ws out i a h p = rw (rest-end ws i h) at p
 
 -- stores one after the other from the start: the new places over the old
 pub overlay-sets : (vs l : List ℕ) → length vs ≤ length l → sets l 0 vs ≡ overlay l 0 vs

@@ -49,16 +49,27 @@ pub enum Liquid {
     Reset,
 }
 
+// Writes bytes at the room's start.
+fn put(bytes: &[u8], out: &mut [u8]) -> Stored
+    ensures { λ r. ⌜ (paperStored r, now (out .exit)) ≡ emit (now (bytes .entry)) (now (out .entry)) ⌝ }
+{
+    let n = bytes.len();
+    if out.len() < n {
+        return Stored::Refused(Refusal::NoRoom);
+    }
+    let mut i = 0;
+    while i < n {
+        out[i] = bytes[i];
+        i += 1;
+    }
+    Stored::Count(n)
+}
+
 // A command alone: no CRC.
 fn write_alone(code: u16, out: &mut [u8]) -> Stored
     ensures { λ r. ⌜ (paperStored r, now (out .exit)) ≡ writeSfc6 (alone code) (now (out .entry)) ⌝ }
 {
-    if out.len() < 2 {
-        return Stored::Refused(Refusal::NoRoom);
-    }
-    out[0] = high(code);
-    out[1] = low(code);
-    Stored::Count(2)
+    put(&[high(code), low(code)], out)
 }
 
 // A command and a concentration: a word with CRC.
@@ -68,19 +79,10 @@ fn write_taking(code: u16, concentration: u32, out: &mut [u8]) -> Stored
     if 1000 < concentration {
         return Stored::Refused(Refusal::OutOfRange);
     }
-    if out.len() < 5 {
-        return Stored::Refused(Refusal::NoRoom);
-    }
-    let code_high = high(code);
-    let code_low = low(code);
     let h = high(concentration as u16);
     let l = low(concentration as u16);
-    out[0] = code_high;
-    out[1] = code_low;
-    out[2] = h;
-    out[3] = l;
-    out[4] = pair_crc(SFC6_START, h, l);
-    Stored::Count(5)
+    let crc = pair_crc(SFC6_START, h, l);
+    put(&[high(code), low(code), h, l, crc], out)
 }
 
 // Writes an SFC6 command.
@@ -101,23 +103,13 @@ pub fn write_sfc6(command: Sfc6, out: &mut [u8]) -> Stored
 fn write_byte(code: u8, out: &mut [u8]) -> Stored
     ensures { λ r. ⌜ (paperStored r, now (out .exit)) ≡ emit (code ∷ []) (now (out .entry)) ⌝ }
 {
-    if out.len() < 1 {
-        return Stored::Refused(Refusal::NoRoom);
-    }
-    out[0] = code;
-    Stored::Count(1)
+    put(&[code], out)
 }
 
 fn write_register(code: u8, value: u16, out: &mut [u8]) -> Stored
     ensures { λ r. ⌜ (paperStored r, now (out .exit)) ≡ emit (code ∷ pair value) (now (out .entry)) ⌝ }
 {
-    if out.len() < 3 {
-        return Stored::Refused(Refusal::NoRoom);
-    }
-    out[0] = code;
-    out[1] = high(value);
-    out[2] = low(value);
-    Stored::Count(3)
+    put(&[code, high(value), low(value)], out)
 }
 
 // Writes a liquid command.

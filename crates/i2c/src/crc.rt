@@ -1,27 +1,22 @@
-// The CRC-8 of the words, bit by bit.
+// The CRC-8 of the words, a byte at a time.
 ghost use mathlib.Core.Path.{_≡_};
-ghost use Rattle.i2c.specs.Crc.{bitStep, byteStep, crcOf};
+ghost use Rattle.i2c.specs.Crc.{bitSteps, byteStep, crcOf};
 
-// One bit. The products stand for a test of the top bit: there is no branch.
-fn bit_step(c: u8) -> u8
-    ensures { λ r. ⌜ r ≡ bitStep c ⌝ }
+// Eight bits at once. The polynomial says that x^8 is x^5 + x^4 + 1, so eight bit steps are the byte, the byte moved left by 4 and the
+// byte moved left by 5. What runs over the top is to be moved likewise, so it is added to the byte first: x / 8 and x / 16 run over, and
+// x / 64 is what these two make run over. The remainders take off what would run over.
+fn folded(x: u8) -> u8
+    ensures { λ r. ⌜ r ≡ bitSteps 8 x ⌝ }
 {
-    ((c % 128) * 2) ^ ((c / 128) * 0x31)
+    let y = x ^ (x / 8) ^ (x / 16) ^ (x / 64);
+    y ^ ((y % 16) * 16) ^ ((y % 8) * 32)
 }
 
 // One byte.
 pub(crate) fn byte_step(c: u8, b: u8) -> u8
     ensures { λ r. ⌜ r ≡ byteStep c b ⌝ }
 {
-    let x0 = c ^ b;
-    let x1 = bit_step(x0);
-    let x2 = bit_step(x1);
-    let x3 = bit_step(x2);
-    let x4 = bit_step(x3);
-    let x5 = bit_step(x4);
-    let x6 = bit_step(x5);
-    let x7 = bit_step(x6);
-    bit_step(x7)
+    folded(c ^ b)
 }
 
 // The CRC of bytes from a start value.

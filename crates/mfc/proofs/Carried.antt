@@ -16,9 +16,9 @@ use Rattle.shdlc.specs.declared.Kind.{Kind}
 use Rattle.shdlc.specs.declared.Kind.the-variants.{Request, Reply}
 use Rattle.receiver.specs.declared.Mode.{Mode}
 use Rattle.receiver.specs.declared.Mode.the-variants.{Outside, Plain, Escaped, BadEscape, BareControl}
-use Rattle.receiver.specs.Record.{Record, lengthInRange, inRange}
+use Rattle.receiver.specs.Record.{Record, numberOfMode, lengthInRange, inRange}
 use Rattle.receiver.specs.Calls.{feedOf}
-use Rattle.mfc.specs.Receivers.{numberOfKind, kindAt, numberOfMode, modeAt, bytesOf, storeIn, recordIn, fedBytes, feedAs, feedRecord, silenceAs, silenceRecord}
+use Rattle.mfc.specs.Receivers.{numberOfKind, kindAt, modeAt, bytesOf, storeIn, recordIn, fedBytes, feedAs, feedRecord, silenceAs, silenceRecord}
 
 kind-back : (kind : Kind) → kindAt (numberOfKind kind) ≡ some kind
 kind-back Request = refl

@@ -14,7 +14,7 @@ use Rattle.refusal.specs.declared.Refusal.{Refusal}
 use Rattle.shdlc.specs.declared.Kind.{Kind}
 use Rattle.receiver.specs.declared.Mode.{Mode}
 use Rattle.receiver.specs.declared.Receiver.{Receiver}
-use Rattle.receiver.specs.Record.{held}
+use Rattle.receiver.specs.Record.{held, numberOfMode}
 use Rattle.receiver.specs.Calls.{gave}
 use Rattle.mfc.specs.declared.answers.MfcFed.{MfcFed}
 use Rattle.mfc.specs.declared.receivers.KindAt.{KindAt}
@@ -23,7 +23,7 @@ use Rattle.mfc.specs.declared.receivers.ModeAt.{ModeAt}
 use Rattle.mfc.specs.declared.receivers.ModeAt.the-variants as modes
 use Rattle.mfc.specs.declared.receivers.Loaded.{Loaded}
 use Rattle.mfc.specs.declared.receivers.Loaded.the-variants as loaded
-use Rattle.mfc.specs.Receivers.{nth, numberOfKind, numberOfMode, kindAt, modeAt, headOf, storeIn, recordOf, recordIn, paperKind, paperMode, paperLoaded, fed}
+use Rattle.mfc.specs.Receivers.{nth, numberOfKind, kindAt, modeAt, headOf, storeIn, recordOf, recordIn, paperKind, paperMode, paperLoaded, fed}
 
 -- past the end of a list nothing stands
 pub nth-past : {A : Type 0} (xs : List A) (n : ℕ) → length xs ≤ n → nth xs n ≡ none

@@ -12,7 +12,7 @@ use Rattle.shdlc.specs.declared.Kind.{Kind}
 use Rattle.shdlc.specs.declared.Kind.the-variants.{Request, Reply}
 use Rattle.receiver.specs.declared.Mode.{Mode}
 use Rattle.receiver.specs.declared.Mode.the-variants.{Outside, Plain, Escaped, BadEscape, BareControl}
-use Rattle.receiver.specs.Record.{Record, held, fresh}
+use Rattle.receiver.specs.Record.{Record, held, numberOfMode, fresh}
 use Rattle.receiver.specs.Calls.{Said, nothing, gave, Outcome, feedOf, silenceOf}
 use Rattle.mfc.specs.declared.answers.MfcFed.{MfcFed}
 use Rattle.mfc.specs.declared.receivers.KindAt.{KindAt}
@@ -37,13 +37,6 @@ abbrev pub kindAt : ℕ → Option Kind
 kindAt n = nth (Request ∷ Reply ∷ []) n
 
 -- "mode (0 outside, 1 plain, 2 escaped, 3 and 4 the refusal found)"
-abbrev pub numberOfMode : Mode → ℕ
-numberOfMode Outside = 0
-numberOfMode Plain = 1
-numberOfMode Escaped = 2
-numberOfMode BadEscape = 3
-numberOfMode BareControl = 4
-
 abbrev pub modeAt : ℕ → Option Mode
 modeAt n = nth (Outside ∷ Plain ∷ Escaped ∷ BadEscape ∷ BareControl ∷ []) n
 

@@ -11,7 +11,7 @@ ghost use Prim.Native.Nat.{_+_, _*_, _/_, _%_, _≤_};
 ghost use lib.ListN.{length};
 ghost use Rattle.refusal.specs.Room.{overlay};
 ghost use Rattle.receiver.specs.Calls.{paperAnswer};
-ghost use Rattle.mfc.specs.Receivers.{numberOfKind, numberOfMode, kindAt, modeAt, paperKind, paperMode, paperLoaded, headOf, storeIn, recordIn, fed, refusalIn, freshRecord, feedRecord, silenceRecord};
+ghost use Rattle.mfc.specs.Receivers.{numberOfKind, kindAt, modeAt, paperKind, paperMode, paperLoaded, headOf, storeIn, recordIn, fed, refusalIn, freshRecord, feedRecord, silenceRecord};
 
 // A kind of frame, a mode and a record by their numbers.
 enum KindAt {
@@ -61,18 +61,6 @@ fn kind_number(kind: Kind) -> u8
     }
 }
 
-fn mode_number(mode: Mode) -> u8
-    ensures { λ r. ⌜ r ≡ numberOfMode mode ⌝ }
-{
-    match mode {
-        Mode::Outside => 0,
-        Mode::Plain => 1,
-        Mode::Escaped => 2,
-        Mode::BadEscape => 3,
-        Mode::BareControl => 4,
-    }
-}
-
 fn joined(high: u8, low: u8) -> usize
     ensures { λ r. ⌜ r ≡ high * 256 + low ⌝ }
 {
@@ -117,7 +105,7 @@ fn put_head(lent: &mut [u8], r: Receiver)
     let mode = r.mode;
     let len = r.len;
     lent[0] = kind_number(kind);
-    lent[1] = mode_number(mode);
+    lent[1] = receiver::mode_number(mode);
     lent[2] = high(len);
     lent[3] = low(len);
 }

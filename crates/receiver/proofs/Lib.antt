@@ -1,4 +1,6 @@
 -- The laws of the definitions in specs/, and demand 3.
+pub mod Bytes
+pub mod Modes
 pub mod Turns
 pub mod Cases
 pub mod Simulation

@@ -3,37 +3,33 @@ use Prim.Native.Nat.{ℕ, _+_, _≤_, _<_}
 use native.Mathlib.Nat.{add-zero}
 use native.Mathlib.Omega.{arith}
 use mathlib.Core.Path.{_≡_, refl, sym, ap, subst, _∙_}
-use mathlib.Core.Bool.{Bool, true, false, cond, _&&_, false≢true}
+use mathlib.Core.Bool.{Bool, true, false, _&&_, false≢true}
 use mathlib.Core.List.{List, [], _∷_, _++_, map}
 use lib.Dec.{ltb, eqb}
 use lib.ListN.{length, take, drop, set, replicate, length-set, length-replicate, take-append-drop}
 use lib.Seq.{length-take-le}
-use borrow.Author.Tests.{eqb-true, ltb-true, ltb-false, lt-ltb, le-ltb}
+use borrow.Author.Tests.{eqb-true, ltb-true, ltb-false}
 use Rattle.refusal.specs.Room.{overlay}
 use Rattle.refusal.proofs.Room.{overlay-nothing, set-overlay, overlay-then, overlay-all}
 use Rattle.shdlc.specs.declared.Kind.{Kind}
-use Rattle.shdlc.specs.Stuffing.{escapes, rightOf, sent, stuffByte, stuff}
+use Rattle.shdlc.specs.Stuffing.{stuffByte, stuff}
 use Rattle.shdlc.specs.Stream.{Event, byte, mark}
 use Rattle.shdlc.proofs.Stuffing.{each-byte}
 use Rattle.shdlc.proofs.Stream.{map-append}
 use Rattle.receiver.specs.declared.Mode.{Mode}
 use Rattle.receiver.specs.declared.Mode.the-variants.{Outside, Plain, Escaped, BadEscape, BareControl}
-use Rattle.receiver.specs.declared.Act.the-variants.{Store}
-use Rattle.receiver.specs.Record.{Record, lengthInRange, inRange, fresh, pushed, acted, opened, nextByte, nextRecord, recordFrom, recordOf}
+use Rattle.receiver.specs.Record.{Record, inStretch, lengthInRange, inRange, fresh, Store, pushed, acted, nextByte, nextRecord, recordFrom, recordOf}
 use Rattle.receiver.proofs.Cases.{range-size}
-use Rattle.receiver.proofs.Turns.{store-room, store-full}
+use Rattle.receiver.proofs.Turns.{store-room}
 use Rattle.receiver.proofs.EverySeries.{record-append}
-
--- in a stretch, n bytes held
-abbrev at : Kind → ℕ → List ℕ → Record
-at kind n store = record { kind = kind; mode = Plain; len = n; store = store }
 
 -- a byte as it is sent is stored
 module _ (kind : Kind) (n : ℕ) (store : List ℕ) where
   abbrev Stores : ℕ → Type 0
-  Stores b = recordFrom (at kind n store) (map byte (stuffByte b)) ≡ acted (at kind n store) (Store b)
+  Stores b = recordFrom (inStretch kind n store) (map byte (stuffByte b)) ≡ acted (inStretch kind n store) (Store b)
 
-  same-push : (t : Bool) (b : ℕ) → pushed t (record { kind = kind; mode = Escaped; len = n; store = store }) b ≡ pushed t (at kind n store) b
+  same-push : (t : Bool) (b : ℕ)
+      → pushed t (record { kind = kind; mode = Escaped; len = n; store = store }) b ≡ pushed t (inStretch kind n store) b
   same-push true b = refl
   same-push false b = refl
 
@@ -45,19 +41,22 @@ module _ (kind : Kind) (n : ℕ) (store : List ℕ) where
 
 -- bytes as they are sent are stored one after the other
 stores-all : (kind : Kind) (bytes : List ℕ) (n : ℕ) (store : List ℕ) → length store ≡ 260 → n + length bytes ≤ 260
-    → recordFrom (at kind n store) (map byte (stuff bytes)) ≡ at kind (n + length bytes) (overlay store n bytes)
+    → recordFrom (inStretch kind n store) (map byte (stuff bytes)) ≡ inStretch kind (n + length bytes) (overlay store n bytes)
 unfolding stuff recordFrom
 stores-all kind [] n store size fits = rw (add-zero, overlay-nothing)
 stores-all kind (b ∷ bytes) n store size fits =
     let here : n < length store = omega arith in
     let more : n ≤ length store = omega arith in
     let kept : length (set store n b) ≡ 260 = rw length-set size in
-    ap (recordFrom (at kind n store)) (map-append (stuffByte b) (stuff bytes))
-    ∙ record-append (map byte (stuffByte b)) (map byte (stuff bytes)) (at kind n store)
-    ∙ ap (λ (r : Record). recordFrom r (map byte (stuff bytes))) (stores kind n store b ∙ store-room (at kind n store) b (omega arith))
+    ap (recordFrom (inStretch kind n store)) (map-append (stuffByte b) (stuff bytes))
+    ∙ record-append (map byte (stuffByte b)) (map byte (stuff bytes)) (inStretch kind n store)
+    ∙ ap (λ (r : Record). recordFrom r (map byte (stuff bytes)))
+    (stores kind n store b ∙ store-room (inStretch kind n store) b (omega arith))
     ∙ stores-all kind bytes (n + 1) (set store n b) kept (omega arith)
     ∙ (let count : n + 1 + length bytes ≡ n + length (b ∷ bytes) = omega arith in
-    λ i. at kind (count i) ((ap (λ (s : List ℕ). overlay s (n + 1) bytes) (set-overlay store n b here) ∙ overlay-then store n (b ∷ []) bytes (n + 1) more (omega arith)) i))
+    let held : overlay (set store n b) (n + 1) bytes ≡ overlay store n (b ∷ bytes) =
+    ap (λ (s : List ℕ). overlay s (n + 1) bytes) (set-overlay store n b here) ∙ overlay-then store n (b ∷ []) bytes (n + 1) more (omega arith) in
+    λ i. inStretch kind (count i) (held i))
 
 record Left (kind : Kind) (r : Record) : Type 0 where
   stream : List Event
@@ -73,20 +72,23 @@ and-then kind r more l =
 
 -- a 7E and some bytes after it
 stretch : (kind : Kind) (r : Record) (bytes : List ℕ) → r .kind ≡ kind → length (r .store) ≡ 260 → length bytes ≤ 260
-    → recordFrom r (byte 0x7E ∷ map byte (stuff bytes)) ≡ at kind (length bytes) (overlay (r .store) 0 bytes)
+    → recordFrom r (byte 0x7E ∷ map byte (stuff bytes)) ≡ inStretch kind (length bytes) (overlay (r .store) 0 bytes)
 unfolding recordFrom nextRecord nextByte
 stretch kind r bytes k size fits =
-    ap (λ (x : Kind). recordFrom (at x 0 (r .store)) (map byte (stuff bytes))) k ∙ stores-all kind bytes 0 (r .store) size (omega arith)
-    ∙ (let count : 0 + length bytes ≡ length bytes = omega arith in λ i. at kind (count i) (overlay (r .store) 0 bytes))
+    ap (λ (x : Kind). recordFrom (inStretch x 0 (r .store)) (map byte (stuff bytes))) k
+    ∙ stores-all kind bytes 0 (r .store) size (omega arith)
+    ∙ (let count : 0 + length bytes ≡ length bytes = omega arith in λ i. inStretch kind (count i) (overlay (r .store) 0 bytes))
 
 -- any store, from the fresh record
-filled : (kind : Kind) (store : List ℕ) → length store ≡ 260 → Left kind (at kind 260 store)
+filled : (kind : Kind) (store : List ℕ) → length store ≡ 260 → Left kind (inStretch kind 260 store)
 filled kind store size =
     let zeros : List ℕ = replicate 260 0 in
     let z : length zeros ≡ 260 = length-replicate {A = ℕ} 260 0 in
     record {
       stream = byte 0x7E ∷ map byte (stuff store);
-      is-left = stretch kind (fresh kind) store refl z (omega arith) ∙ (λ i. at kind (size i) (overlay-all zeros store (size ∙ sym z) i));
+      is-left =
+          stretch kind (fresh kind) store refl z (omega arith)
+          ∙ (λ i. inStretch kind (size i) (overlay-all zeros store (size ∙ sym z) i));
     }
 
 again : (store : List ℕ) (n : ℕ) → n ≤ length store → overlay store 0 (take n store) ≡ store
@@ -96,28 +98,29 @@ again store n h =
     ap (λ (k : ℕ). take n store ++ drop k store) count ∙ take-append-drop n store
 
 -- any length up to 260 in that store
-short : (kind : Kind) (store : List ℕ) (n : ℕ) → length store ≡ 260 → n ≤ 260 → Left kind (at kind n store)
+short : (kind : Kind) (store : List ℕ) (n : ℕ) → length store ≡ 260 → n ≤ 260 → Left kind (inStretch kind n store)
 short kind store n size h =
     let within : n ≤ length store = omega arith in
     let count : length (take n store) ≡ n = length-take-le n store within in
     subst (Left kind)
-    (stretch kind (at kind 260 store) (take n store) refl size (omega arith) ∙ (λ i. at kind (count i) (again store n within i)))
-    (and-then kind (at kind 260 store) (byte 0x7E ∷ map byte (stuff (take n store))) (filled kind store size))
+    (stretch kind (inStretch kind 260 store) (take n store) refl size (omega arith)
+    ∙ (λ i. inStretch kind (count i) (again store n within i)))
+    (and-then kind (inStretch kind 260 store) (byte 0x7E ∷ map byte (stuff (take n store))) (filled kind store size))
 
 -- and 261
-one-more : (kind : Kind) (store : List ℕ) → recordFrom (at kind 260 store) (byte 0 ∷ []) ≡ at kind 261 store
+one-more : (kind : Kind) (store : List ℕ) → recordFrom (inStretch kind 260 store) (byte 0 ∷ []) ≡ inStretch kind 261 store
 unfolding recordFrom nextRecord nextByte acted
 one-more kind store = refl
 
-any-length : (kind : Kind) (store : List ℕ) (n : ℕ) → length store ≡ 260 → n < 262 → Left kind (at kind n store)
+any-length : (kind : Kind) (store : List ℕ) (n : ℕ) → length store ≡ 260 → n < 262 → Left kind (inStretch kind n store)
 any-length kind store n size h = go (ltb n 261) refl
   where
-    go : (t : Bool) → ltb n 261 ≡ t → Left kind (at kind n store)
+    go : (t : Bool) → ltb n 261 ≡ t → Left kind (inStretch kind n store)
     go true e = short kind store n size (omega (arith, ltb-true n 261 e))
     go false e =
         let last : 261 ≡ n = omega (arith, ltb-false n 261 e) in
-        subst (λ (m : ℕ). Left kind (at kind m store)) last
-        (subst (Left kind) (one-more kind store) (and-then kind (at kind 260 store) (byte 0 ∷ []) (filled kind store size)))
+        subst (λ (m : ℕ). Left kind (inStretch kind m store)) last
+        (subst (Left kind) (one-more kind store) (and-then kind (inStretch kind 260 store) (byte 0 ∷ []) (filled kind store size)))
 
 -- and any mode
 any-mode : (m : Mode) (kind : Kind) (n : ℕ) (store : List ℕ) → length store ≡ 260 → lengthInRange m n ≡ true
@@ -126,12 +129,14 @@ unfolding recordFrom nextRecord nextByte acted
 any-mode Outside kind n store size h =
     let none : 0 ≡ n = sym (eqb-true n 0 h) in
     subst (λ (k : ℕ). Left kind (record { kind = kind; mode = Outside; len = k; store = store })) none
-    (and-then kind (at kind 260 store) (mark ∷ []) (filled kind store size))
+    (and-then kind (inStretch kind 260 store) (mark ∷ []) (filled kind store size))
 any-mode Plain kind n store size h = any-length kind store n size (ltb-true n 262 h)
-any-mode Escaped kind n store size h = and-then kind (at kind n store) (byte 0x7D ∷ []) (any-length kind store n size (ltb-true n 262 h))
+any-mode Escaped kind n store size h =
+    and-then kind (inStretch kind n store) (byte 0x7D ∷ []) (any-length kind store n size (ltb-true n 262 h))
 any-mode BadEscape kind n store size h =
-    and-then kind (at kind n store) (byte 0x7D ∷ byte 0 ∷ []) (any-length kind store n size (ltb-true n 262 h))
-any-mode BareControl kind n store size h = and-then kind (at kind n store) (byte 0x11 ∷ []) (any-length kind store n size (ltb-true n 262 h))
+    and-then kind (inStretch kind n store) (byte 0x7D ∷ byte 0 ∷ []) (any-length kind store n size (ltb-true n 262 h))
+any-mode BareControl kind n store size h =
+    and-then kind (inStretch kind n store) (byte 0x11 ∷ []) (any-length kind store n size (ltb-true n 262 h))
 
 second : (t u : Bool) → (t && u) ≡ true → u ≡ true
 second true u h = h

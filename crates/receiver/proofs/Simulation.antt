@@ -20,9 +20,7 @@ use Rattle.shdlc.specs.Stream as Stream
 use Rattle.shdlc.proofs.Body.{body-long}
 use Rattle.receiver.specs.declared.Mode.{Mode}
 use Rattle.receiver.specs.declared.Mode.the-variants.{Outside, Plain, Escaped, BadEscape, BareControl}
-use Rattle.receiver.specs.declared.Act.{Act}
-use Rattle.receiver.specs.declared.Act.the-variants.{Store, Become}
-use Rattle.receiver.specs.Record.{Record, lengthInRange, inRange, fresh, unescape, actOf, pushed, acted, opened, silenced, pendingIn, pending, itemIn, itemOf, nextByte, nextRecord}
+use Rattle.receiver.specs.Record.{Record, lengthInRange, inRange, fresh, Act, Store, Become, unescape, actOf, pushed, acted, opened, silenced, pendingIn, pending, itemIn, itemOf, nextByte, nextRecord}
 
 -- a stretch read so far: the mode and the whole unstuffed body, of any length
 pub record Progress : Type 0 where

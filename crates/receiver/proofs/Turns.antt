@@ -1,17 +1,32 @@
--- What a turn of the scan's loop comes to. Assumes nothing.
-use Prim.Native.Nat.{ℕ, _+_, _<_, _≤_}
+-- What a turn of the scan's loop comes to, and a run of bytes that it stores. Assumes nothing.
+use Prim.Native.Nat.{ℕ, _+_, _-_, _<_, _≤_}
 use native.Mathlib.Omega.{arith}
-use mathlib.Core.Path.{_≡_, refl, sym, ap, _∙_}
-use mathlib.Core.Bool.{true, false, cond}
+use mathlib.Core.Path.{_≡_, refl, sym, ap, subst, _∙_}
+use mathlib.Core.Bool.{Bool, true, false, cond, _||_, false≢true}
 use mathlib.Core.List.{List, [], _∷_}
-use borrow.Author.Tests.{lt-ltb, le-ltb, ne-eqb, eq-eqb}
-use lib.ListN.{length, getD, drop, set}
+use native.Mathlib.Nat.{add-zero, add-assoc}
+use borrow.Author.Tests.{lt-ltb, le-ltb, ne-eqb, eq-eqb, eqb-false}
+use lib.Dec.{eqb}
+use lib.ListN.{length, getD, take, drop, set, length-drop}
+use lib.Seq.{take-all, drop-drop}
+use Rattle.shdlc.specs.declared.Kind.{Kind}
+use Rattle.shdlc.specs.Stuffing.{isControl}
 use Rattle.refusal.proofs.Rest.{rest-here, rest-end}
-use Rattle.receiver.specs.declared.Mode.the-variants.{Plain}
-use Rattle.receiver.specs.declared.Act.{Act}
-use Rattle.receiver.specs.declared.Act.the-variants.{Store, Become}
-use Rattle.receiver.specs.Record.{Record, actOf, acted, opened, pending, nextByte}
-use Rattle.receiver.specs.Calls.{Scan, scanFrom}
+use Rattle.receiver.specs.declared.Mode.{Mode}
+use Rattle.receiver.specs.declared.Mode.the-variants.{Plain, Escaped, BareControl}
+use Rattle.receiver.specs.Record.{Record, inStretch, Act, Store, Become, actOf, acted, opened, pending, nextByte}
+use Rattle.receiver.specs.Calls.{Scan, scanFrom, Runs}
+use Rattle.receiver.proofs.Bytes.{special}
+
+module _ (r : Record) (b : ℕ) where
+  pub store-room : r .len < 260
+      → acted r (Store b) ≡ record { kind = r .kind; mode = Plain; len = r .len + 1; store = set (r .store) (r .len) b }
+  unfolding acted
+  store-room h = rw (lt-ltb (r .len) 260 h)
+
+  store-full : 260 ≤ r .len → acted r (Store b) ≡ record { kind = r .kind; mode = Plain; len = 261; store = r .store }
+  unfolding acted
+  store-full h = rw (le-ltb (r .len) 260 h)
 
 module _ (n : ℕ) (r : Record) (b : ℕ) (piece : List ℕ) where
   pub turn-close : b ≡ 0x7E → pending r ≡ true → scanFrom n r (b ∷ piece) ≡ record { before = r; taken = n + 1; closed = true }
@@ -22,13 +37,28 @@ module _ (n : ℕ) (r : Record) (b : ℕ) (piece : List ℕ) where
   unfolding scanFrom nextByte
   turn-open e p = simp (eq-eqb b 0x7E e, p)
 
-  pub turn-act : (b ≡ 0x7E → ⊥) → (a : Act) → actOf (r .mode) b ≡ a → scanFrom n r (b ∷ piece) ≡ scanFrom (n + 1) (acted r a) piece
+  turn-act : (b ≡ 0x7E → ⊥) → (a : Act) → actOf (r .mode) b ≡ a → scanFrom n r (b ∷ piece) ≡ scanFrom (n + 1) (acted r a) piece
   unfolding scanFrom nextByte
   turn-act e a p = simp (ne-eqb b 0x7E e) (ap (λ (x : Act). scanFrom (n + 1) (acted r x) piece) p)
 
+  pub turn-become : (b ≡ 0x7E → ⊥) → (m : Mode) → actOf (r .mode) b ≡ Become m
+      → scanFrom n r (b ∷ piece) ≡ scanFrom (n + 1) (record { kind = r .kind; mode = m; len = r .len; store = r .store }) piece
+  unfolding acted
+  turn-become e m p = turn-act e (Become m) p
+
+  -- a byte of the body where there is room for it, and where there is none
+  pub turn-store : (b ≡ 0x7E → ⊥) → (v : ℕ) → actOf (r .mode) b ≡ Store v → r .len < 260
+      → scanFrom n r (b ∷ piece) ≡ scanFrom (n + 1) (inStretch (r .kind) (r .len + 1) (set (r .store) (r .len) v)) piece
+  turn-store e v p h = turn-act e (Store v) p ∙ ap (λ (x : Record). scanFrom (n + 1) x piece) (store-room r v h)
+
+  pub turn-full : (b ≡ 0x7E → ⊥) → (v : ℕ) → actOf (r .mode) b ≡ Store v → 260 ≤ r .len
+      → scanFrom n r (b ∷ piece) ≡ scanFrom (n + 1) (inStretch (r .kind) 261 (r .store)) piece
+  turn-full e v p h = turn-act e (Store v) p ∙ ap (λ (x : Record). scanFrom (n + 1) x piece) (store-full r v h)
+
 -- a loop that has read i bytes of the piece reads one more
 pub scan-next : (start r : Record) (piece : List ℕ) (i : ℕ) {x : Scan} → i < length piece
-    → scanFrom 0 start piece ≡ scanFrom i r (drop i piece) → scanFrom i r (getD piece i 0 ∷ drop (i + 1) piece) ≡ x → scanFrom 0 start piece ≡ x
+    → scanFrom 0 start piece ≡ scanFrom i r (drop i piece) → scanFrom i r (getD piece i 0 ∷ drop (i + 1) piece) ≡ x
+    → scanFrom 0 start piece ≡ x
 scan-next start r piece i h e q = e ∙ ap (scanFrom i r) (rest-here piece i h) ∙ q
 
 scan-end : (n : ℕ) (r : Record) → scanFrom n r [] ≡ record { before = r; taken = n; closed = false }
@@ -40,12 +70,41 @@ pub scan-done : (start r : Record) (piece : List ℕ) (i : ℕ) → length piece
     → scanFrom 0 start piece ≡ scanFrom i r (drop i piece) → scanFrom 0 start piece ≡ record { before = r; taken = i; closed = false }
 scan-done start r piece i h e = e ∙ ap (scanFrom i r) (rest-end piece i h) ∙ scan-end i r
 
-module _ (r : Record) (b : ℕ) where
-  pub store-room : r .len < 260
-      → acted r (Store b) ≡ record { kind = r .kind; mode = Plain; len = r .len + 1; store = set (r .store) (r .len) b }
-  unfolding acted
-  store-room h = rw (lt-ltb (r .len) 260 h)
+-- a run of bytes that a stretch stores
+pub run-none : (store : List ℕ) (len : ℕ) (piece : List ℕ) → Runs store len piece store 0
+run-none store len piece kind taken = simp add-zero
 
-  pub store-full : 260 ≤ r .len → acted r (Store b) ≡ record { kind = r .kind; mode = Plain; len = 261; store = r .store }
-  unfolding acted
-  store-full h = rw (le-ltb (r .len) 260 h)
+-- a byte that is not special is stored
+plain-byte : (t u v : Bool) (b : ℕ) → (t || (u || v)) ≡ false
+    → (t ≡ false) × (cond u (Become Escaped) (cond v (Become BareControl) (Store b)) ≡ Store b)
+plain-byte true u v b h = absurd (false≢true (sym h))
+plain-byte false true v b h = absurd (false≢true (sym h))
+plain-byte false false true b h = absurd (false≢true (sym h))
+plain-byte false false false b h = (refl, refl)
+
+module _ (start : List ℕ) (len : ℕ) (piece store : List ℕ) (i : ℕ) where
+  -- one more byte of it
+  pub run-next : i < length piece → len + i < 260 → special (getD piece i 0) ≡ false
+      → Runs start len piece store i → Runs start len piece (set store (len + i) (getD piece i 0)) (i + 1)
+  run-next h room plain runs kind taken =
+      let b : ℕ = getD piece i 0 in
+      let p = plain-byte (eqb b 0x7E) (eqb b 0x7D) (isControl b) b plain in
+      runs kind taken ∙ ap (scanFrom (taken + i) (inStretch kind (len + i) store)) (rest-here piece i h)
+      ∙ turn-store (taken + i) (inStretch kind (len + i) store) b (drop (i + 1) piece) (eqb-false b 0x7E (p .0)) b (p .1) room
+      ∙ rw (add-assoc taken i 1, add-assoc len i 1)
+
+-- a run in what a piece has left: its bytes are among those left, and the scan goes on after them
+module _ (piece : List ℕ) (j : ℕ) where
+  left : j ≤ length piece → take (length piece - j) (drop j piece) ≡ drop j piece
+  left h = take-all (length piece - j) (drop j piece) (omega (arith, length-drop j piece))
+
+  pub run-within : (n : ℕ) → j ≤ length piece → n ≤ length (take (length piece - j) (drop j piece)) → j + n ≤ length piece
+  run-within n h g = omega (arith, ap length (left h), length-drop j piece)
+
+  pub run-left : (start store : List ℕ) (len n : ℕ) (kind : Kind) → j ≤ length piece
+      → Runs start len (take (length piece - j) (drop j piece)) store n
+      → scanFrom j (inStretch kind len start) (drop j piece) ≡ scanFrom (j + n) (inStretch kind (len + n) store) (drop (j + n) piece)
+  run-left start store len n kind h runs =
+      subst (λ (p : List ℕ). scanFrom j (inStretch kind len start) p ≡ scanFrom (j + n) (inStretch kind (len + n) store) (drop n p))
+      (left h) (runs kind j)
+      ∙ ap (scanFrom (j + n) (inStretch kind (len + n) store)) (drop-drop n j piece)

@@ -12,8 +12,6 @@ use Rattle.shdlc.specs.Body.{checkBody}
 use Rattle.shdlc.specs.Stream.{Event, byte, mark, Item}
 use Rattle.receiver.specs.declared.Mode.{Mode}
 use Rattle.receiver.specs.declared.Mode.the-variants.{Outside, Plain, Escaped, BadEscape, BareControl}
-use Rattle.receiver.specs.declared.Act.{Act}
-use Rattle.receiver.specs.declared.Act.the-variants.{Store, Become}
 use Rattle.receiver.specs.declared.Receiver.{Receiver}
 
 -- the whole record: the struct's three fields, and the store that is lent beside it
@@ -25,6 +23,22 @@ pub record Record : Type 0 where
 
 abbrev pub held : Receiver → List ℕ → Record
 held r store = record { kind = r .kind; mode = r .mode; len = r .len; store = store }
+
+-- in a stretch without a fault, n bytes held
+abbrev pub inStretch : Kind → ℕ → List ℕ → Record
+inStretch kind n store = record { kind = kind; mode = Plain; len = n; store = store }
+
+-- the modes by number: 0 outside, 1 plain, 2 escaped, 3 and 4 the refusal found
+abbrev pub numberOfMode : Mode → ℕ
+numberOfMode Outside = 0
+numberOfMode Plain = 1
+numberOfMode Escaped = 2
+numberOfMode BadEscape = 3
+numberOfMode BareControl = 4
+
+-- and back; 4 and above are the last
+abbrev pub modeOf : ℕ → Mode
+modeOf n = cond (eqb n 0) Outside (cond (eqb n 1) Plain (cond (eqb n 2) Escaped (cond (eqb n 3) BadEscape BareControl)))
 
 -- outside a stretch no byte is held; inside one up to 260, and 261 stands for more
 abbrev pub lengthInRange : Mode → ℕ → Bool
@@ -43,6 +57,11 @@ outsideOf kind = record { kind = kind; mode = Outside; len = 0 }
 
 abbrev pub fresh : Kind → Record
 fresh kind = held (outsideOf kind) (replicate 260 0)
+
+-- what a byte inside a stretch does: it is a byte of the body, or it changes the mode
+pub data Act : Type 0 where
+  Store : ℕ → Act
+  Become : Mode → Act
 
 -- what a byte after a 7D does
 abbrev pub unescape : Option ℕ → Act

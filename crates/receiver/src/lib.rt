@@ -3,15 +3,17 @@ use refusal::Refusal;
 use shdlc::Checked;
 use shdlc::Kind;
 ghost use mathlib.Core.Path.{_≡_};
-ghost use mathlib.Core.Bool.{_&&_};
-ghost use mathlib.Core.List.{_++_};
-ghost use Prim.Native.Nat.{_≤_, _<_, _+_};
+ghost use mathlib.Core.Bool.{cond, _&&_, _||_};
+ghost use mathlib.Core.Option.{none, some};
+ghost use Prim.Native.Nat.{_≤_, _+_};
+ghost use lib.Bits.{bitXor};
 ghost use lib.Dec.{eqb};
-ghost use lib.ListN.{length, take, drop, replicate};
+ghost use lib.ListN.{length, take, replicate};
 ghost use Rattle.refusal.specs.Room.{overlay};
 ghost use Rattle.shdlc.specs.Paper.{paperChecked};
-ghost use Rattle.receiver.specs.Record.{held, outsideOf, lengthInRange, actOf, pendingIn, itemIn};
-ghost use Rattle.receiver.specs.Calls.{paperFed, paperQuiet, paperMade, freshOf, feedOf, silenceOf, completed, scannedAs, scanFrom};
+ghost use Rattle.shdlc.specs.Stuffing.{escapes, leftOf, isControl};
+ghost use Rattle.receiver.specs.Record.{held, numberOfMode, modeOf, outsideOf, lengthInRange, pendingIn, itemIn};
+ghost use Rattle.receiver.specs.Calls.{paperFed, paperQuiet, paperMade, freshOf, feedOf, silenceOf, completed, scannedAs, scanFrom, Runs};
 
 // Where the receiver stands: before the first 7E or after silence; in a stretch; in one after a 7D; in one with the fault of
 // refusal 3 or 4 found.
@@ -56,12 +58,6 @@ pub struct Quiet {
     pub answer: Answer,
 }
 
-// What a byte inside a stretch does: it is a byte of the body, or it changes the mode.
-enum Act {
-    Store(u8),
-    Become(Mode),
-}
-
 // What scanning a piece found: the record, the bytes passed, and whether the last of them is a 7E that ends a stretch.
 struct Scanned {
     receiver: Receiver,
@@ -69,53 +65,83 @@ struct Scanned {
     closed: bool,
 }
 
-fn act_plain(b: u8) -> Act
-    ensures { λ r. ⌜ r ≡ actOf Mode.Plain b ⌝ }
-{
-    match b {
-        0x7D => Act::Become(Mode::Escaped),
-        0x11 => Act::Become(Mode::BareControl),
-        0x13 => Act::Become(Mode::BareControl),
-        _ => Act::Store(b),
-    }
-}
+// The modes by number: `scan` keeps the mode so, since its loop compares numbers more quickly than it matches an enum.
+const OUTSIDE: u8 = 0;
 
-fn act_escaped(b: u8) -> Act
-    ensures { λ r. ⌜ r ≡ actOf Mode.Escaped b ⌝ }
-{
-    match b {
-        0x5E => Act::Store(0x7E),
-        0x5D => Act::Store(0x7D),
-        0x31 => Act::Store(0x11),
-        0x33 => Act::Store(0x13),
-        _ => Act::Become(Mode::BadEscape),
-    }
-}
+const PLAIN: u8 = 1;
 
-// What a byte other than 7E does in a mode.
-fn act_on(mode: Mode, b: u8) -> Act
-    ensures { λ r. ⌜ r ≡ actOf mode b ⌝ }
+const ESCAPED: u8 = 2;
+
+const BAD_ESCAPE: u8 = 3;
+
+const BARE_CONTROL: u8 = 4;
+
+// The number of a mode, and the mode of its number; 4 and above are the last.
+pub fn mode_number(mode: Mode) -> u8
+    ensures { λ r. ⌜ r ≡ numberOfMode mode ⌝ }
 {
     match mode {
-        Mode::Outside => Act::Become(Mode::Outside),
-        Mode::Plain => act_plain(b),
-        Mode::Escaped => act_escaped(b),
-        Mode::BadEscape => Act::Become(Mode::BadEscape),
-        Mode::BareControl => Act::Become(Mode::BareControl),
+        Mode::Outside => 0,
+        Mode::Plain => 1,
+        Mode::Escaped => 2,
+        Mode::BadEscape => 3,
+        Mode::BareControl => 4,
+    }
+}
+
+fn mode_of(m: u8) -> Mode
+    ensures { λ r. ⌜ r ≡ modeOf m ⌝ }
+{
+    match m {
+        0 => Mode::Outside,
+        1 => Mode::Plain,
+        2 => Mode::Escaped,
+        3 => Mode::BadEscape,
+        _ => Mode::BareControl,
+    }
+}
+
+// Whether the byte is a bare 11 or 13.
+fn is_control(b: u8) -> bool
+    ensures { λ r. ⌜ r ≡ isControl b ⌝ }
+{
+    match b {
+        0x11 | 0x13 => true,
+        _ => false,
+    }
+}
+
+// Whether the byte may follow a 7D; the byte that it stands for is then the one that differs in the bit 20.
+fn is_escaped(b: u8) -> bool
+    ensures { λ r. ⌜ leftOf escapes b ≡ cond r (some (bitXor b 0x20)) none ⌝ }
+{
+    match b {
+        0x5E | 0x5D | 0x31 | 0x33 => true,
+        _ => false,
+    }
+}
+
+// Whether the byte is a 7E, or one that may not stand by itself in a stretch.
+fn is_special(b: u8) -> bool
+    ensures { λ r. ⌜ r ≡ (eqb b 0x7E || (eqb b 0x7D || isControl b)) ⌝ }
+{
+    match b {
+        0x7E | 0x7D | 0x11 | 0x13 => true,
+        _ => false,
     }
 }
 
 // Whether the stretch has a byte.
-fn is_pending(mode: Mode, len: usize) -> bool
-    ensures { λ r. ⌜ r ≡ pendingIn mode len ⌝ }
+fn is_pending(m: u8, len: usize) -> bool
+    ensures { λ r. ⌜ r ≡ pendingIn (modeOf m) len ⌝ }
 {
-    match mode {
-        Mode::Outside => false,
-        Mode::Plain => 0 < len,
-        Mode::Escaped => true,
-        Mode::BadEscape => true,
-        Mode::BareControl => true,
+    if m == OUTSIDE {
+        return false;
     }
+    if m == PLAIN {
+        return 0 < len;
+    }
+    true
 }
 
 fn length_in_range(mode: Mode, len: usize) -> bool
@@ -123,10 +149,7 @@ fn length_in_range(mode: Mode, len: usize) -> bool
 {
     match mode {
         Mode::Outside => len == 0,
-        Mode::Plain => len < 262,
-        Mode::Escaped => len < 262,
-        Mode::BadEscape => len < 262,
-        Mode::BareControl => len < 262,
+        Mode::Plain | Mode::Escaped | Mode::BadEscape | Mode::BareControl => len < 262,
     }
 }
 
@@ -239,47 +262,90 @@ fn complete(r: Receiver, taken: usize, store: &[u8], frame: &mut [u8]) -> Fed
     }
 }
 
+// Stores the piece's bytes up to the first special one, or as many as the store has room for, and answers how many.
+fn store_run(store: &mut [u8], len: usize, piece: &[u8]) -> usize
+    requires { ⌜ (length (now store) ≡ 260) × (len ≤ 260) ⌝ }
+    ensures { λ n. ⌜ (len + n ≤ 260) × (n ≤ length (now (piece .entry))) × Runs (now (store .entry)) len (now (piece .entry)) (now (store .exit)) n ⌝ }
+{
+    let mut end = 260 - len;
+    if piece.len() < end {
+        end = piece.len();
+    }
+    let mut i: usize = 0;
+    while i < end {
+        let b = piece[i];
+        if is_special(b) {
+            return i;
+        }
+        store[len + i] = b;
+        i += 1;
+    }
+    i
+}
+
 // Reads a piece up to a 7E that ends a stretch with a byte, and stops before what that 7E does to the record.
 fn scan(r: Receiver, store: &mut [u8], piece: &[u8]) -> Scanned
     requires { ⌜ length (now store) ≡ 260 ⌝ }
     ensures { λ s. ⌜ scannedAs s (now (store .exit)) ≡ scanFrom 0 (held r (now (store .entry))) (now (piece .entry)) ⌝ }
 {
     let kind = r.kind;
-    let mut mode = r.mode;
+    let mode = r.mode;
+    let mut m = mode_number(mode);
     let mut len = r.len;
     let mut i: usize = 0;
     while i < piece.len() {
         let b = piece[i];
         i += 1;
         if b == 0x7E {
-            if is_pending(mode, len) {
+            if is_pending(m, len) {
                 return Scanned {
-                    receiver: Receiver { kind, mode, len },
+                    receiver: Receiver {
+                        kind,
+                        mode: mode_of(m),
+                        len,
+                    },
                     taken: i,
                     closed: true,
                 };
             }
-            mode = Mode::Plain;
+            m = PLAIN;
             len = 0;
-        } else {
-            match act_on(mode, b) {
-                Act::Store(v) => {
-                    mode = Mode::Plain;
-                    if len < 260 {
-                        store[len] = v;
-                        len += 1;
-                    } else {
-                        len = 261;
-                    }
+        } else if m == PLAIN {
+            if b == 0x7D {
+                m = ESCAPED;
+            } else if is_control(b) {
+                m = BARE_CONTROL;
+            } else if len < 260 {
+                store[len] = b;
+                len += 1;
+                if i < piece.len() {
+                    let n = store_run(store, len, &piece[i..]);
+                    len += n;
+                    i += n;
                 }
-                Act::Become(m) => {
-                    mode = m;
+            } else {
+                len = 261;
+            }
+        } else if m == ESCAPED {
+            if is_escaped(b) {
+                m = PLAIN;
+                if len < 260 {
+                    store[len] = b ^ 0x20;
+                    len += 1;
+                } else {
+                    len = 261;
                 }
+            } else {
+                m = BAD_ESCAPE;
             }
         }
     }
     Scanned {
-        receiver: Receiver { kind, mode, len },
+        receiver: Receiver {
+            kind,
+            mode: mode_of(m),
+            len,
+        },
         taken: i,
         closed: false,
     }
@@ -332,7 +398,7 @@ pub fn silence(r: Receiver, store: &[u8]) -> Quiet
         };
     }
     let after = outside(kind);
-    if is_pending(mode, len) {
+    if is_pending(mode_number(mode), len) {
         return Quiet {
             receiver: after,
             answer: Answer::Refused(Refusal::CutBySilence),

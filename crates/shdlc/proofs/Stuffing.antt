@@ -5,6 +5,7 @@ use mathlib.Core.List.{List, [], _∷_, _++_, append-assoc, append-nil}
 use mathlib.Core.Option.{Option, none, some}
 use Prim.Native.Nat.{ℕ, _+_, _*_, _≤_, _<_}
 use native.Mathlib.Omega.{arith}
+use lib.Bits.{bitXor}
 use lib.Dec.{eqb}
 use borrow.Author.Tests.{eqb-true}
 use lib.ListN.{length, getD, drop, length-append}
@@ -12,10 +13,13 @@ use Rattle.refusal.specs.Refusals.{Answered, served, refused}
 use Rattle.shdlc.specs.Stuffing.{escapes, rightOf, leftOf, sent, stuffByte, stuff, isControl, prepend, meant, unstuff, unstuffEscaped}
 use Rattle.refusal.proofs.Rest.{rest-here}
 
--- how a byte is sent, from its row of the table
-pub sent-as : (b : ℕ) {row : Option ℕ} → row ≡ rightOf escapes b → stuffByte b ≡ sent b row
-unfolding stuffByte
-sent-as b e = ap (sent b) (sym e)
+-- how a byte is sent, from a test of it
+module _ (b : ℕ) {test : Bool} (e : stuffByte b ≡ cond test (0x7D ∷ bitXor b 0x20 ∷ []) (b ∷ [])) where
+  pub sent-escaped : test ≡ true → stuffByte b ≡ 0x7D ∷ bitXor b 0x20 ∷ []
+  sent-escaped h = e ∙ ap (λ (t : Bool). cond t (0x7D ∷ bitXor b 0x20 ∷ []) (b ∷ [])) h
+
+  pub sent-plain : test ≡ false → stuffByte b ≡ b ∷ []
+  sent-plain h = e ∙ ap (λ (t : Bool). cond t (0x7D ∷ bitXor b 0x20 ∷ []) (b ∷ [])) h
 
 sent-short : (b : ℕ) (row : Option ℕ) → (1 ≤ length (sent b row)) × (length (sent b row) ≤ 2)
 sent-short b none = (omega arith, omega arith)

@@ -1,15 +1,18 @@
 // Frames on the wire: checksum, byte stuffing, the checks of a body, and the writer of a whole frame.
 use refusal::Refusal;
 ghost use mathlib.Core.Path.{_≡_};
-ghost use mathlib.Core.List.{_++_};
-ghost use Prim.Native.Nat.{_+_, _≤_, _<_};
+ghost use mathlib.Core.Bool.{cond, not};
+ghost use mathlib.Core.List.{[], _∷_, _++_};
+ghost use Prim.Native.Nat.{_+_, _-_, _/_, _%_, _≤_, _<_};
+ghost use lib.Bits.{bitXor};
+ghost use lib.Dec.{ltb};
 ghost use lib.ListN.{length};
 ghost use Rattle.refusal.specs.Room.{overlay};
-ghost use Rattle.shdlc.specs.Checksum.{checksumOf};
-ghost use Rattle.shdlc.specs.Stuffing.{escapes, rightOf, stuffByte, stuff};
+ghost use Rattle.shdlc.specs.Checksum.{sum, checksumOf};
+ghost use Rattle.shdlc.specs.Stuffing.{stuffByte, stuff};
 ghost use Rattle.shdlc.specs.Body.{shortest, longest, lengthPlace, checkBody};
-ghost use Rattle.shdlc.specs.Frame.{writeFrame};
-ghost use Rattle.shdlc.specs.Paper.{paperChecked, paperWritten, paperEscape};
+ghost use Rattle.shdlc.specs.Frame.{frameOf, writeFrame};
+ghost use Rattle.shdlc.specs.Paper.{paperChecked, paperWritten, writtenOf};
 
 // Which frames are expected: requests (MOSI) or replies (MISO).
 pub enum Kind {
@@ -29,29 +32,30 @@ pub enum Written {
     Refused(Refusal),
 }
 
-// How a byte is sent: as it is, or after a 7D as another byte.
-enum Escape {
-    Plain,
-    Escaped(u8),
-}
-
 fn wide(b: u8) -> usize
     ensures { λ r. ⌜ (r ≡ b) × (r < 256) ⌝ }
 {
     b as usize
 }
 
+// The sum of the bytes on top of another, modulo 256.
+fn sum_on(start: u8, bytes: &[u8]) -> u8
+    ensures { λ r. ⌜ r ≡ (start + sum (now (bytes .entry))) % 256 ⌝ }
+{
+    let mut total = wide(start);
+    let mut i: usize = 0;
+    while i < bytes.len() {
+        total = (total + wide(bytes[i])) % 256;
+        i += 1;
+    }
+    total as u8
+}
+
 // The checksum of the bytes of a body before it.
 pub fn checksum(bytes: &[u8]) -> u8
     ensures { λ r. ⌜ r ≡ checksumOf (now (bytes .entry)) ⌝ }
 {
-    let mut sum: usize = 0;
-    let mut i: usize = 0;
-    while i < bytes.len() {
-        sum = (sum + wide(bytes[i])) % 256;
-        i += 1;
-    }
-    (255 - sum) as u8
+    255 - sum_on(0, bytes)
 }
 
 fn shortest_of(kind: Kind) -> usize
@@ -94,15 +98,16 @@ pub fn check_body(kind: Kind, body: &[u8]) -> Checked
     Checked::Good
 }
 
-fn escape_of(b: u8) -> Escape
-    ensures { λ r. ⌜ paperEscape r ≡ rightOf escapes b ⌝ }
+// Whether b is sent after a 7D, with 20 hex added to it by exclusive or.
+fn is_escaped(b: u8) -> bool
+    ensures { λ r. ⌜ stuffByte b ≡ cond r (0x7D ∷ bitXor b 0x20 ∷ []) (b ∷ []) ⌝ }
 {
     match b {
-        0x7E => Escape::Escaped(0x5E),
-        0x7D => Escape::Escaped(0x5D),
-        0x11 => Escape::Escaped(0x31),
-        0x13 => Escape::Escaped(0x33),
-        _ => Escape::Plain,
+        0x7E => true,
+        0x7D => true,
+        0x11 => true,
+        0x13 => true,
+        _ => false,
     }
 }
 
@@ -110,10 +115,7 @@ fn escape_of(b: u8) -> Escape
 fn stuffed_size(b: u8) -> usize
     ensures { λ r. ⌜ r ≡ length (stuffByte b) ⌝ }
 {
-    match escape_of(b) {
-        Escape::Plain => 1,
-        Escape::Escaped(_) => 2,
-    }
+    if is_escaped(b) { 2 } else { 1 }
 }
 
 // How many bytes the bytes take once stuffed.
@@ -134,50 +136,142 @@ fn put_byte(out: &mut [u8], place: usize, b: u8) -> usize
     requires { ⌜ place + length (stuffByte b) ≤ length (now out) ⌝ }
     ensures { λ r. ⌜ (r ≡ place + length (stuffByte b)) × (now (out .exit) ≡ overlay (now (out .entry)) place (stuffByte b)) ⌝ }
 {
-    match escape_of(b) {
-        Escape::Plain => {
-            out[place] = b;
-            place + 1
-        }
-        Escape::Escaped(e) => {
-            out[place] = 0x7D;
-            let next = place + 1;
-            out[next] = e;
-            next + 1
-        }
+    if is_escaped(b) {
+        out[place] = 0x7D;
+        let next = place + 1;
+        out[next] = b ^ 0x20;
+        return next + 1;
     }
+    out[place] = b;
+    place + 1
 }
 
-// Writes the bytes, stuffed, from a place on, and answers the place after them.
-fn put_stuffed(out: &mut [u8], place: usize, bytes: &[u8]) -> usize
+// Where the next byte goes, and the sum of those before it, modulo 256.
+struct Laid {
+    place: usize,
+    total: u8,
+}
+
+fn plus(start: u8, b: u8) -> u8
+    ensures { λ r. ⌜ r ≡ (start + b) % 256 ⌝ }
+{
+    ((wide(start) + wide(b)) % 256) as u8
+}
+
+// Writes the bytes, stuffed, from a place on, and sums them on top of another sum.
+fn put_stuffed(out: &mut [u8], place: usize, start: u8, bytes: &[u8]) -> Laid
     requires { ⌜ place + length (stuff (now bytes)) ≤ length (now out) ⌝ }
-    ensures { λ r. ⌜ (r ≡ place + length (stuff (now (bytes .entry)))) × (now (out .exit) ≡ overlay (now (out .entry)) place (stuff (now (bytes .entry)))) ⌝ }
+    ensures { λ r. ⌜ (r .place ≡ place + length (stuff (now (bytes .entry)))) × (r .total ≡ (start + sum (now (bytes .entry))) % 256) × (now (out .exit) ≡ overlay (now (out .entry)) place (stuff (now (bytes .entry)))) ⌝ }
 {
     let mut o = place;
+    let mut total = start;
     let mut i: usize = 0;
     while i < bytes.len() {
-        o = put_byte(out, o, bytes[i]);
+        let b = bytes[i];
+        total = plus(total, b);
+        o = put_byte(out, o, b);
         i += 1;
     }
-    o
+    Laid {
+        place: o,
+        total: total,
+    }
 }
 
-// Writes the frame of a body without its checksum at the start of the lent room. It counts before it writes.
+// Ends a frame with the checksum of a sum, stuffed, and a 7E, and answers the place after it.
+fn finish(out: &mut [u8], place: usize, total: u8) -> usize
+    requires { ⌜ place + length (stuffByte (255 - total)) < length (now out) ⌝ }
+    ensures { λ r. ⌜ (r ≡ place + length (stuffByte (255 - total) ++ (0x7E ∷ []))) × (now (out .exit) ≡ overlay (now (out .entry)) place (stuffByte (255 - total) ++ (0x7E ∷ []))) ⌝ }
+{
+    let last = put_byte(out, place, 255 - total);
+    out[last] = 0x7E;
+    last + 1
+}
+
+// What is left of the room, 0 where more is taken than there is.
+fn less(room: usize, taken: usize) -> usize
+    ensures { λ r. ⌜ r ≡ room - taken ⌝ }
+{
+    if room < taken { 0 } else { room - taken }
+}
+
+// Whether the frame of a body in three parts is longer than the room: the bytes are counted.
+fn is_longer(first: &[u8], second: &[u8], third: &[u8], room: usize) -> bool
+    ensures { λ r. ⌜ r ≡ ltb room (length (frameOf (now (first .entry) ++ (now (second .entry) ++ now (third .entry))))) ⌝ }
+{
+    let total = sum_on(sum_on(sum_on(0, first), second), third);
+    let one = less(room, stuffed_len(first));
+    let two = less(one, stuffed_len(second));
+    let three = less(two, stuffed_len(third));
+    three < stuffed_size(255 - total) + 2
+}
+
+// Whether the room is enough for the frame of so many bytes, whatever they are.
+fn is_roomy(first: usize, rest: usize, room: usize) -> bool
+    ensures { λ r. ⌜ r ≡ not (ltb (room / 2) (first + rest + 2)) ⌝ }
+{
+    let half = room / 2;
+    if half < 2 {
+        return false;
+    }
+    if half - 2 < first {
+        return false;
+    }
+    if half - 2 - first < rest {
+        return false;
+    }
+    true
+}
+
+// Whether the frame of a body in three parts is longer than the room. It counts the bytes only where they might not fit.
+fn is_short(first: &[u8], second: &[u8], third: &[u8], room: usize) -> bool
+    ensures { λ r. ⌜ r ≡ ltb room (length (frameOf (now (first .entry) ++ (now (second .entry) ++ now (third .entry))))) ⌝ }
+{
+    if is_roomy(first.len(), second.len() + third.len(), room) {
+        return false;
+    }
+    is_longer(first, second, third, room)
+}
+
+// Writes the frame of a body without its checksum at the start of the lent room, and answers its length; 0 where the room is too short.
+pub fn lay_frame(body: &[u8], out: &mut [u8]) -> usize
+    ensures { λ r. ⌜ (writtenOf r, now (out .exit)) ≡ writeFrame (now (body .entry)) (now (out .entry)) ⌝ }
+{
+    if is_short(body, &[], &[], out.len()) {
+        return 0;
+    }
+    out[0] = 0x7E;
+    let a = put_stuffed(out, 1, 0, body);
+    finish(out, a.place, a.total)
+}
+
+// The same of a body in three parts.
+pub fn lay_parts(first: &[u8], second: &[u8], third: &[u8], out: &mut [u8]) -> usize
+    ensures { λ r. ⌜ (writtenOf r, now (out .exit)) ≡ writeFrame (now (first .entry) ++ (now (second .entry) ++ now (third .entry))) (now (out .entry)) ⌝ }
+{
+    if is_short(first, second, third, out.len()) {
+        return 0;
+    }
+    out[0] = 0x7E;
+    let a = put_stuffed(out, 1, 0, first);
+    let b = put_stuffed(out, a.place, a.total, second);
+    let c = put_stuffed(out, b.place, b.total, third);
+    finish(out, c.place, c.total)
+}
+
+// What a writer answers of such a length.
+pub fn written_of(n: usize) -> Written
+    ensures { λ r. ⌜ paperWritten r ≡ writtenOf n ⌝ }
+{
+    if n == 0 {
+        return Written::Refused(Refusal::NoRoom);
+    }
+    Written::Done(n)
+}
+
+// Writes the frame of a body without its checksum at the start of the lent room.
 pub fn write_frame(body: &[u8], out: &mut [u8]) -> Written
     ensures { λ r. ⌜ (paperWritten r, now (out .exit)) ≡ writeFrame (now (body .entry)) (now (out .entry)) ⌝ }
 {
-    let stuffed = stuffed_len(body);
-    if out.len() < stuffed {
-        return Written::Refused(Refusal::NoRoom);
-    }
-    let sum = checksum(body);
-    let need = stuffed + stuffed_size(sum) + 2;
-    if out.len() < need {
-        return Written::Refused(Refusal::NoRoom);
-    }
-    out[0] = 0x7E;
-    let place = put_stuffed(out, 1, body);
-    let last = put_byte(out, place, sum);
-    out[last] = 0x7E;
-    Written::Done(need)
+    written_of(lay_frame(body, out))
 }

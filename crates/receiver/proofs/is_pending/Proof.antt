@@ -1,5 +1,6 @@
--- `receiver::is_pending` meets its contract, by the mode that each arm is told. Assumes nothing.
-use borrow.Author.Needs.{needs}
+-- `receiver::is_pending` meets its contract. Assumes nothing.
+use mathlib.Core.Path.{sym}
+use Rattle.receiver.proofs.Modes.{pending-other}
 use Rattle.receiver.proofs.is_pending.Statement.{statement}
 use Rattle.receiver.proofs.is_pending.Tie as tie
 
@@ -7,13 +8,6 @@ pub is-pending-spec : {M : Type 1} → statement M
 is-pending-spec =
     tie.close
     (tie.spec
-    (λ c. search needs)
-    (λ c. search needs)
-    (λ c. search needs)
-    (λ c. search needs)
-    (λ c. search needs)
-    (λ c. rw (c .enum-told .given .1))
-    (λ c. rw (c .enum-told2 .given .1))
-    (λ c. rw (c .enum-told3 .given .1))
-    (λ c. rw (c .enum-told4 .given .1))
-    (λ c. rw (c .enum-told5 .given .1)))
+    (λ c. rw (c .if1 .taken))
+    (λ c. rw (c .if2 .taken))
+    (λ c. sym (pending-other _ _ (c .before .if1 .left) (c .if2 .left))))

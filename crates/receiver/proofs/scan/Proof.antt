@@ -8,38 +8,60 @@ use mathlib.Core.List.{List, _∷_}
 use lib.ListN.{length, getD, drop, length-set}
 use Rattle.shdlc.specs.declared.Kind.{Kind}
 use Rattle.receiver.specs.declared.Mode.{Mode}
-use Rattle.receiver.specs.declared.Act.the-variants.{Store, Become}
-use Rattle.receiver.specs.Record.{Record, held, acted}
+use Rattle.receiver.specs.declared.Mode.the-variants.{Escaped, BadEscape, BareControl}
+use Rattle.receiver.specs.declared.Receiver.{Receiver}
+use Rattle.receiver.specs.Record.{Record, held, inStretch, numberOfMode, modeOf, Store, actOf}
 use Rattle.receiver.specs.Calls.{Scan, scanFrom}
-use Rattle.receiver.proofs.Turns.{turn-close, turn-open, turn-act, scan-next, scan-done, store-room, store-full}
+use Rattle.receiver.proofs.Modes.{mode-back, act-escape, act-control, act-plain, act-escaped, act-bad, act-none}
+use Rattle.receiver.proofs.Turns.{turn-close, turn-open, turn-become, turn-store, turn-full, scan-next, scan-done, run-within, run-left}
 use Rattle.receiver.proofs.scan.Statement.{statement}
 use Rattle.receiver.proofs.scan.Tie as tie
 
 -- the record that the loop's variables make
-abbrev now : Kind → Mode → ℕ → List ℕ → Record
-now kind mode len store = record { kind = kind; mode = mode; len = len; store = store }
+abbrev now : Kind → ℕ → ℕ → List ℕ → Record
+now kind m len store = record { kind = kind; mode = modeOf m; len = len; store = store }
 
 abbrev Inv-loop : tie.InvT-loop
-Inv-loop store₀ piece kind mode₀ len₀ i₀ store mode len i =
+Inv-loop store₀ piece kind m₀ len₀ i₀ store m len i =
     (i ≤ length piece) × (length store ≡ 260) × (length store ≡ length store₀)
-    × (scanFrom 0 (now kind mode₀ len₀ store₀) piece ≡ scanFrom i (now kind mode len store) (drop i piece))
+    × (scanFrom 0 (now kind m₀ len₀ store₀) piece ≡ scanFrom i (now kind m len store) (drop i piece))
 
 abbrev μ-loop : tie.MeasureT-loop
-μ-loop store₀ piece kind mode₀ len₀ i₀ store mode len i = length piece - i
+μ-loop store₀ piece kind m₀ len₀ i₀ store m len i = length piece - i
+
+-- what is returned, from the loop's equation
+abbrev in-mode : Scan → Mode → Scan
+in-mode s mode =
+    record {
+      before = record { kind = s .before .kind; mode = mode; len = s .before .len; store = s .before .store };
+      taken = s .taken;
+      closed = s .closed;
+    }
+
+returned : (r : Receiver) (m₀ : ℕ) (store₀ piece : List ℕ) (s : Scan) (mode : Mode) → m₀ ≡ numberOfMode (r .mode) → mode ≡ s .before .mode
+    → scanFrom 0 (now (r .kind) m₀ (r .len) store₀) piece ≡ s
+    → in-mode s mode ≡ scanFrom 0 (held r store₀) piece
+returned r m₀ store₀ piece s mode e f q =
+    ap (in-mode s) f ∙ sym q
+    ∙ ap (λ (x : Mode). scanFrom 0 (record { kind = r .kind; mode = x; len = r .len; store = store₀ }) piece)
+    (ap modeOf e ∙ mode-back (r .mode))
 
 -- one more byte read: the turn's law gives the scan from there
 module _ (c : tie.After-shared-slice-known2 Inv-loop μ-loop) where
   abbrev loop : tie.At-loop Inv-loop μ-loop
   loop = c .before .before
 
+  abbrev rec : Receiver
+  rec = loop .before .before .before .before .args .r
+
   abbrev piece : List ℕ
-  piece = loop .before .before .before .args .piece .now
+  piece = loop .before .before .before .before .args .piece .now
 
   abbrev start : Record
-  start = held (loop .before .before .before .args .r) (loop .before .before .before .args .store .now)
+  start = now (rec .kind) (loop .before .mode-number .result) (rec .len) (loop .before .before .before .before .args .store .now)
 
   abbrev here : Record
-  here = now (loop .before .before .before .args .r .kind) (loop .loop .mode) (loop .loop .len) (loop .loop .store)
+  here = now (rec .kind) (loop .loop .m) (loop .loop .len) (loop .loop .store)
 
   read : {x : Scan} → scanFrom (loop .loop .i) here (getD piece (loop .loop .i) 0 ∷ drop (loop .loop .i + 1) piece) ≡ x
       → scanFrom 0 start piece ≡ x
@@ -47,69 +69,174 @@ module _ (c : tie.After-shared-slice-known2 Inv-loop μ-loop) where
 
 returns : tie.Need-returns Inv-loop μ-loop
 returns c =
-    let b = c .before .before .before in
-    sym (read b (turn-close (b .before .before .loop .i) (here b) _ _ (c .before .before .if1 .taken) (sym (c .before .is-pending .ensures) ∙ c .if2 .taken)))
+    let p = c .before .before in
+    let b = p .before .before in
+    let l = b .before .before .loop in
+    returned (rec b) _ _ (piece b) _ _ (b .before .before .before .mode-number .ensures) (c .mode-of .ensures)
+    (read b (turn-close (l .i) (here b) _ _ (p .before .if1 .taken) (sym (p .is-pending .ensures) ∙ c .before .if2 .taken)))
 
 loop-again : tie.Need-loop-again Inv-loop μ-loop
 loop-again c =
+    let p = c .before in
+    let b = p .before .before in
+    let l = b .before .before .loop in (
+      search needs,
+      l .inv .1,
+      l .inv .2,
+      read b (turn-open (l .i) (here b) _ _ (p .before .if1 .taken) (sym (p .is-pending .ensures) ∙ c .if2 .left)),
+    )
+
+loop-again-2 : tie.Need-loop-again-2 Inv-loop μ-loop
+loop-again-2 c =
     let b = c .before .before .before in
     let l = b .before .before .loop in (
       search needs,
       l .inv .1,
       l .inv .2,
-      read b (turn-open (l .i) (here b) _ _ (c .before .before .if1 .taken) (sym (c .before .is-pending .ensures) ∙ c .if2 .left)),
-    )
-
-loop-again-2 : tie.Need-loop-again-2 Inv-loop μ-loop
-loop-again-2 c =
-    let k = c .before .before .before .before in
-    let b = k .before .before in
-    let l = b .before .before .loop in
-    let v = c .before .before .v .given in (
-      search needs,
-      simp length-set (l .inv .1),
-      simp length-set (l .inv .2),
       read b
-          (turn-act (l .i) (here b) _ _ (k .before .if1 .left) (Store (v .0 .0)) (sym (k .act-on .ensures) ∙ v .1)
-          ∙ ap (λ (x : Record). scanFrom (l .i + 1) x (drop (l .i + 1) (piece b)))
-          (store-room (here b) (v .0 .0) (c .if3 .taken))),
+          (turn-become (l .i) (here b) _ _ (c .before .before .if1 .left) Escaped
+          (act-escape _ _ (c .before .if3 .taken) (c .if4 .taken))),
     )
 
 loop-again-3 : tie.Need-loop-again-3 Inv-loop μ-loop
 loop-again-3 c =
-    let k = c .before .before .before .before in
-    let b = k .before .before in
-    let l = b .before .before .loop in
-    let v = c .before .before .v .given in (
+    let k = c .before in
+    let b = k .before .before .before .before in
+    let l = b .before .before .loop in (
       search needs,
       l .inv .1,
       l .inv .2,
       read b
-          (turn-act (l .i) (here b) _ _ (k .before .if1 .left) (Store (v .0 .0)) (sym (k .act-on .ensures) ∙ v .1)
-          ∙ ap (λ (x : Record). scanFrom (l .i + 1) x (drop (l .i + 1) (piece b)))
-          (store-full (here b) (v .0 .0) (c .if3 .left))),
+          (turn-become (l .i) (here b) _ _ (k .before .before .before .if1 .left) BareControl
+          (act-control _ _ (k .before .before .if3 .taken) (k .before .if4 .left) (sym (k .is-control .ensures) ∙ c .if5 .taken))),
     )
 
+-- the mode's number stays in a run
+same-mode : (kind : Kind) (m len : ℕ) (store : List ℕ) (n : ℕ) (l : List ℕ) → m ≡ 1
+    → scanFrom n (inStretch kind len store) l ≡ scanFrom n (now kind m len store) l
+same-mode kind m len store n l h = ap (λ (x : ℕ). scanFrom n (now kind x len store) l) (sym h)
+
+-- a byte of the body as it is
+module _ (c : tie.Else5 Inv-loop μ-loop) where
+  abbrev at : tie.After-shared-slice-known2 Inv-loop μ-loop
+  at = c .before .before .before .before .before
+
+  abbrev byte : ℕ
+  byte = getD (piece at) (loop at .loop .i) 0
+
+  no-end : byte ≡ 0x7E → ⊥
+  no-end = c .before .before .before .before .if1 .left
+
+  is-plain : loop at .loop .m ≡ 1
+  is-plain = c .before .before .before .if3 .taken
+
+  plain : actOf (modeOf (loop at .loop .m)) byte ≡ Store byte
+  plain = act-plain _ _ is-plain (c .before .before .if4 .left) (sym (c .before .is-control .ensures) ∙ c .if5 .left)
+
+-- a run after it
+module _ (c : tie.After-store-run Inv-loop μ-loop) where
+  abbrev stored : tie.Then6 Inv-loop μ-loop
+  stored = c .before .before .before .before
+
+  within : loop (at (stored .before)) .loop .i + 1 + c .store-run .result ≤ length (piece (at (stored .before)))
+  within =
+      let b = at (stored .before) in run-within (piece b) (loop b .loop .i + 1) _ (omega arith) (c .store-run .ensures .1)
+
 loop-again-4 : tie.Need-loop-again-4 Inv-loop μ-loop
-unfolding acted
 loop-again-4 c =
-    let k = c .before .before .before in
-    let b = k .before .before in
-    let l = b .before .before .loop in
-    let m = c .before .m .given in (
+    let r = c .before .before in
+    let k = stored r .before in
+    let l = loop (at k) .loop in (
+      within r,
+      r .store-run .kept .0 ∙ simp length-set (l .inv .1),
+      r .store-run .kept .0 ∙ simp length-set (l .inv .2),
+      read (at k)
+          (turn-store (l .i) (here (at k)) _ _ (no-end k) (byte k) (plain k) (stored r .if6 .taken)
+          ∙ run-left (piece (at k)) (l .i + 1) _ _ _ _ (rec (at k) .kind) (omega arith) (r .store-run .ensures .2)
+          ∙ same-mode _ _ _ _ _ _ (is-plain k)),
+    )
+
+loop-again-5 : tie.Need-loop-again-5 Inv-loop μ-loop
+loop-again-5 c =
+    let k = c .before .before in
+    let l = loop (at k) .loop in (
+      search needs,
+      simp length-set (l .inv .1),
+      simp length-set (l .inv .2),
+      read (at k)
+          (turn-store (l .i) (here (at k)) _ _ (no-end k) (byte k) (plain k) (c .before .if6 .taken)
+          ∙ same-mode _ _ _ _ _ _ (is-plain k)),
+    )
+
+loop-again-6 : tie.Need-loop-again-6 Inv-loop μ-loop
+loop-again-6 c =
+    let k = c .before in
+    let l = loop (at k) .loop in (
       search needs,
       l .inv .1,
       l .inv .2,
-      read b (turn-act (l .i) (here b) _ _ (k .before .if1 .left) (Become (m .0 .0)) (sym (k .act-on .ensures) ∙ m .1)),
+      read (at k) (turn-full (l .i) (here (at k)) _ _ (no-end k) (byte k) (plain k) (c .if6 .left) ∙ same-mode _ _ _ _ _ _ (is-plain k)),
+    )
+
+loop-again-7 : tie.Need-loop-again-7 Inv-loop μ-loop
+loop-again-7 c =
+    let k = c .before .before in
+    let b = k .before .before .before .before in
+    let l = b .before .before .loop in (
+      search needs,
+      simp length-set (l .inv .1),
+      simp length-set (l .inv .2),
+      read b
+          (turn-store (l .i) (here b) _ _ (k .before .before .before .if1 .left) _
+          (act-escaped _ _ _ (k .before .if8 .taken) (k .is-escaped .ensures) (c .before .if9 .taken)) (c .if10 .taken)),
+    )
+
+loop-again-8 : tie.Need-loop-again-8 Inv-loop μ-loop
+loop-again-8 c =
+    let k = c .before .before in
+    let b = k .before .before .before .before in
+    let l = b .before .before .loop in (
+      search needs,
+      l .inv .1,
+      l .inv .2,
+      read b
+          (turn-full (l .i) (here b) _ _ (k .before .before .before .if1 .left) _
+          (act-escaped _ _ _ (k .before .if8 .taken) (k .is-escaped .ensures) (c .before .if9 .taken)) (c .if10 .left)),
+    )
+
+loop-again-9 : tie.Need-loop-again-9 Inv-loop μ-loop
+loop-again-9 c =
+    let k = c .before in
+    let b = k .before .before .before .before in
+    let l = b .before .before .loop in (
+      search needs,
+      l .inv .1,
+      l .inv .2,
+      read b
+          (turn-become (l .i) (here b) _ _ (k .before .before .before .if1 .left) BadEscape
+          (act-bad _ _ _ (k .before .if8 .taken) (k .is-escaped .ensures) (c .if9 .left))),
+    )
+
+loop-again-10 : tie.Need-loop-again-10 Inv-loop μ-loop
+loop-again-10 c =
+    let b = c .before .before .before in
+    let l = b .before .before .loop in (
+      search needs,
+      l .inv .1,
+      l .inv .2,
+      read b
+          (turn-become (l .i) (here b) _ _ (c .before .before .if1 .left) (modeOf (l .m))
+          (act-none _ _ (c .before .if3 .left) (c .if8 .left))),
     )
 
 returns-2 : tie.Need-returns-2 Inv-loop μ-loop
 returns-2 c =
-    let l = c .before .loop in
-    let a = c .before .before .before .before .args in
-    sym
-    (scan-done (held (a .r) (a .store .now)) (now (a .r .kind) (l .mode) (l .len) (l .store)) (a .piece .now) (l .i) (c .loop-test .left)
-    (l .inv .3))
+    let t = c .before .before in
+    let l = t .loop in
+    let a = t .before .before .before .before .args in
+    returned (a .r) _ (a .store .now) (a .piece .now) _ _ (t .before .mode-number .ensures) (c .mode-of2 .ensures)
+    (scan-done (now (a .r .kind) (t .before .mode-number .result) (a .r .len) (a .store .now))
+    (now (a .r .kind) (l .m) (l .len) (l .store)) (a .piece .now) (l .i) (c .before .loop-test .left) (l .inv .3))
 
 pub scan-spec : {M : Type 1} → statement M
 scan-spec =
@@ -117,24 +244,46 @@ scan-spec =
     (tie.spec
     Inv-loop
     μ-loop
-    (λ c. (search needs, c .before .before .pre, refl, refl))
+    (λ c κs. search needs)
+    (λ c. (search needs, c .before .before .before .pre, refl, refl))
     (λ c. omega arith)
     (λ c. omega arith)
     (λ c κs. search needs)
-    (λ c. c .before .before .before .before .before .loop .inv .2)
+    (λ c κs. search needs)
+    (λ c. c .before .before .before .before .before .before .loop .inv .2)
     returns
     (λ c. omega arith)
     loop-again
-    (λ c κs. search needs)
-    (λ c. search needs)
-    (λ c. omega arith)
-    (λ c. omega arith)
     (λ c. omega arith)
     loop-again-2
+    (λ c κs. search needs)
     (λ c. omega arith)
     loop-again-3
-    (λ c. search needs)
     (λ c. omega arith)
+    (λ c. omega arith)
+    (λ c. omega arith)
+    (λ c. search needs)
+    (λ c. search needs)
+    (λ c κs. let k = c .before .before .before .before in (simp length-set (loop (at k) .loop .inv .1), omega arith))
+    (λ c. omega arith)
+    (λ c. omega (arith, within (c .before .before)))
+    (λ c. omega (arith, within (c .before .before)))
     loop-again-4
-    (λ c. c .before .loop .inv .2)
+    (λ c. omega arith)
+    loop-again-5
+    (λ c. omega arith)
+    loop-again-6
+    (λ c κs. search needs)
+    (λ c. omega arith)
+    (λ c. omega arith)
+    (λ c. omega arith)
+    loop-again-7
+    (λ c. omega arith)
+    loop-again-8
+    (λ c. omega arith)
+    loop-again-9
+    (λ c. omega arith)
+    loop-again-10
+    (λ c κs. search needs)
+    (λ c. c .before .before .loop .inv .2)
     returns-2)

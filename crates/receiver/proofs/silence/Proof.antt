@@ -2,8 +2,9 @@
 use borrow.Author.Needs.{needs}
 use mathlib.Core.Path.{_≡_, sym, _∙_}
 use mathlib.Core.Bool.{true}
-use Rattle.receiver.specs.Record.{Record, held, inRange}
+use Rattle.receiver.specs.Record.{Record, held, inRange, pending}
 use Rattle.receiver.proofs.Cases.{not-true, not-false, silence-range, silence-cut, silence-idle, quiet-left}
+use Rattle.receiver.proofs.Modes.{pending-by-number}
 use Rattle.receiver.proofs.silence.Statement.{statement}
 use Rattle.receiver.proofs.silence.Tie as tie
 
@@ -14,6 +15,10 @@ module _ (c : tie.After-outside) where
   in-range : inRange rec ≡ true
   in-range = sym (c .before .before .in-range .ensures) ∙ not-false _ (c .before .if1 .left)
 
+-- the test of the code, by the mode's number
+still : (c : tie.After-is-pending) → pending (rec (c .before .before)) ≡ c .is-pending .result
+still c = pending-by-number (rec (c .before .before) .mode) _ _ (c .before .mode-number .ensures) (sym (c .is-pending .ensures))
+
 pub silence-spec : {M : Type 1} → statement M
 silence-spec =
     tie.close
@@ -22,11 +27,12 @@ silence-spec =
     (λ c. sym (silence-range _ (sym (c .before .in-range .ensures) ∙ not-true _ (c .if1 .taken))))
     (λ c κs. search needs)
     (λ c κs. search needs)
+    (λ c κs. search needs)
     (λ c.
-    let o = c .before .before in
+    let o = c .before .before .before in
     quiet-left _ (rec o) _ (o .outside .ensures)
-    ∙ sym (silence-cut (rec o) (in-range o) (sym (c .before .is-pending .ensures) ∙ c .if2 .taken)))
+    ∙ sym (silence-cut (rec o) (in-range o) (still (c .before) ∙ c .if2 .taken)))
     (λ c.
-    let o = c .before .before in
+    let o = c .before .before .before in
     quiet-left _ (rec o) _ (o .outside .ensures)
-    ∙ sym (silence-idle (rec o) (in-range o) (sym (c .before .is-pending .ensures) ∙ c .if2 .left))))
+    ∙ sym (silence-idle (rec o) (in-range o) (still (c .before) ∙ c .if2 .left))))

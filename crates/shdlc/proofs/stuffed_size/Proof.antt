@@ -1,9 +1,8 @@
 -- `shdlc::stuffed_size` meets its contract. Assumes nothing.
 use borrow.Author.Needs.{needs}
-use mathlib.Core.Path.{sym, ap, _∙_}
+use mathlib.Core.Path.{_≡_, sym, ap}
 use lib.ListN.{length}
-use Rattle.shdlc.specs.Paper.{paperEscape}
-use Rattle.shdlc.proofs.Stuffing.{sent-as}
+use Rattle.shdlc.proofs.Stuffing.{sent-escaped, sent-plain}
 use Rattle.shdlc.proofs.stuffed_size.Statement.{statement}
 use Rattle.shdlc.proofs.stuffed_size.Tie as tie
 
@@ -12,7 +11,5 @@ stuffed-size-spec =
     tie.close
     (tie.spec
     (λ c κs. search needs)
-    (λ c. search needs)
-    (λ c. search needs)
-    (λ c. sym (ap length (sent-as _ (sym (ap paperEscape (c .enum-told .given .1)) ∙ c .before .before .escape-of .ensures))))
-    (λ c. sym (ap length (sent-as _ (sym (ap paperEscape (c .enum-told2 .given .1)) ∙ c .before .before .escape-of .ensures)))))
+    (λ c. sym (ap length (sent-escaped _ (c .before .is-escaped .ensures) (c .if1 .taken))))
+    (λ c. sym (ap length (sent-plain _ (c .before .is-escaped .ensures) (c .if1 .left)))))

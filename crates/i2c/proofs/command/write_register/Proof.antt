@@ -1,29 +1,22 @@
 -- `i2c::command::write_register` meets its contract. Assumes nothing.
-use native.Mathlib.Omega.{arith}
-use lib.ListN.{length-set}
-use Rattle.i2c.proofs.CommandAnswers.{no-room, register-all}
+use Rattle.i2c.proofs.CommandAnswers.{register-written}
 use borrow.Author.Needs.{needs}
 use Rattle.i2c.proofs.command.write_register.Statement.{statement}
 use Rattle.i2c.proofs.command.write_register.Tie as tie
 
 returns : tie.Need-returns
-returns c = no-room _ _ (c .if1 .taken)
-
-slice-write-out-2 : tie.Need-slice-write-out-2
-slice-write-out-2 c = simp length-set (omega arith)
-
-returns-2 : tie.Need-returns-2
-returns-2 c = register-all _ _ _ _ _ (c .before .high .ensures) (c .low .ensures) (c .before .before .if1 .left)
+returns c =
+    let w = c .before .before in
+    let l = w .before .before .before in
+    register-written _ _ _ _ _ (l .before .high .ensures) (l .low .ensures) (w .put .ensures)
 
 pub write-register-spec : {M : Type 1} → statement M
 write-register-spec =
     tie.close
     (tie.spec
-    returns
-    (λ c. search needs)
     (λ c κs. search needs)
-    slice-write-out-2
     (λ c κs. search needs)
     (λ c. search needs)
+    (λ c κs. search needs)
     (λ c. search needs)
-    returns-2)
+    returns)
