@@ -3,7 +3,7 @@ use mathlib.Core.Path.{_≡_, refl, sym, ap, subst, _∙_}
 use mathlib.Core.Bool.{Bool, true, false, cond, not, _||_}
 use mathlib.Core.List.{List, [], _∷_, _++_}
 use mathlib.Core.Option.{Option, none, some, Option·getD}
-use Prim.Native.Nat.{ℕ, _+_, _-_, min, _≤_}
+use Prim.Native.Nat.{ℕ, _+_, _-_, _≤_}
 use native.Mathlib.Omega.{arith}
 use lib.Dec.{T, eqb}
 use lib.ListN.{length, getD, take, drop}
@@ -20,7 +20,6 @@ use Rattle.shdlc.specs.Paper.{paperChecked}
 use Rattle.shdlc.proofs.Body.{passes}
 use Rattle.payload.specs.Field.{big}
 use Rattle.sfc6.specs.declared.Request.{Request}
-use Rattle.sfc6.specs.declared.Request.the-variants as request
 use Rattle.sfc6.specs.declared.Row.{Row}
 use Rattle.sfc6.specs.declared.Answer.{Answer}
 use Rattle.sfc6.specs.declared.Answer.the-variants as answer
@@ -32,44 +31,10 @@ use Rattle.sfc6.proofs.Order.{never, first-refuses, then-more}
 use Rattle.replies.specs.declared.Reply.{Reply}
 use Rattle.replies.specs.declared.Content.{Content}
 use Rattle.replies.specs.declared.Content.the-variants as content
-use Rattle.replies.specs.Replies.{readingOf, replyTo, contentOf, outOfRange, badFloat}
+use Rattle.replies.specs.Replies.{replyTo, contentOf, outOfRange, badFloat}
 use Rattle.replies.specs.Reader.{codeIn, bit7In, lengthIn, dataIn, sizeOf, isSize, foreign, textIn, Got, value, text, gotBy, valueChecks, readChecks, answerTo, withBit7, readReply}
 use Rattle.replies.proofs.Apart.{apart}
-
--- what is carried by the reply of a number, by the form that the table says
-unfoldable pub contentFrom : Answer → ℕ → Content
-contentFrom answer.Nothing n = content.Nothing
-contentFrom answer.Float n = content.Float (readingOf n)
-contentFrom answer.U16 n = content.U16 (min n 65535)
-contentFrom answer.U32 n = content.U32 n
-contentFrom answer.Validity n = content.Validity (min n 255)
-contentFrom answer.Address n = content.Address (min n 255)
-contentFrom answer.Baud n = content.Baud n
-contentFrom answer.Text n = content.Text
-
-pub content-from : (q : Request) (n : ℕ) → contentOf (replyTo q n) ≡ contentFrom (row q .answer) n
-unfolding row contentFrom
-content-from request.GetSetpoint n = refl
-content-from (request.SetSetpoint x) n = refl
-content-from request.MeasuredValue n = refl
-content-from request.GetGain n = refl
-content-from (request.SetGain x) n = refl
-content-from request.GetInitStep n = refl
-content-from (request.SetInitStep x) n = refl
-content-from request.RawFlow n = refl
-content-from request.RawConductivity n = refl
-content-from request.Temperature n = refl
-content-from request.NumberOfCalibrations n = refl
-content-from (request.Validity index) n = refl
-content-from request.FullScale n = refl
-content-from request.GetCalibration n = refl
-content-from (request.SetCalibration c) n = refl
-content-from (request.VolatileCalibration c) n = refl
-content-from request.GetAddress n = refl
-content-from (request.SetAddress a) n = refl
-content-from request.GetBaud n = refl
-content-from (request.SetBaud rate) n = refl
-content-from request.ProductType n = refl
+use Rattle.replies.proofs.Table.{contentFrom, tabled}
 
 -- ---- the reply of a number
 abbrev pub ofNumber : Request → ℕ → Bool → Answered Got × Option Bool
@@ -132,7 +97,7 @@ pub text-from : (q : Request) (a : Answer) (body : List ℕ) (bit7 : Bool) (n : 
 unfolding dataIn contentFrom
 text-from q a body bit7 n is e f =
     let m : length body - 1 - 4 ≡ length body - 5 = omega arith in
-    let c : contentOf (replyTo q (big (dataIn body))) ≡ content.Text = content-from q (big (dataIn body)) ∙ ap (λ (x : Answer). contentFrom x (big (dataIn body))) (sym e ∙ is) in
+    let c : contentOf (replyTo q (big (dataIn body))) ≡ content.Text = tabled q (big (dataIn body)) .carried ∙ ap (λ (x : Answer). contentFrom x (big (dataIn body))) (sym e ∙ is) in
     rw (c, is, f, m)
 
 -- ---- the whole

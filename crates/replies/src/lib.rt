@@ -17,13 +17,13 @@ ghost use Prim.Native.Nat.{_+_, _-_, _^_, _≤_, _<_, min};
 ghost use lib.Dec.{ltb};
 ghost use lib.ListN.{length, take, drop};
 ghost use Rattle.refusal.specs.Refusals.{number, inOrder};
-ghost use Rattle.refusal.specs.Room.{overlay};
+ghost use Rattle.shdlc.specs.Frame.{frameOf};
 ghost use Rattle.shdlc.specs.Paper.{paperWritten};
 ghost use Rattle.payload.specs.Field.{big, bigEndian, bytesIn};
 ghost use Rattle.sfc6.specs.Commands.{row};
 ghost use Rattle.sfc6.specs.Requests.{lay};
 ghost use Rattle.replies.specs.Replies.{bitsOf, readingOf, replyTo, suits, contentOf, outOfRange, notFinite, badFloat};
-ghost use Rattle.replies.specs.Writer.{badText, dataOf, stateOf, frameFor, writeReply};
+ghost use Rattle.replies.specs.Writer.{badText, dataOf, stateOf, bodyOf, frameFor, writeReply};
 ghost use Rattle.replies.specs.Reader.{dataIn, sizeOf, isSize, foreign, textIn, value, gotBy, valueChecks, withBit7, readReply};
 ghost use Rattle.replies.specs.Paper.{paperTaken, paperRead};
 
@@ -374,74 +374,32 @@ fn wide16(n: u16) -> u32
     n as u32
 }
 
-// Writes the bytes from a place on, and answers the place after them.
-fn put_bytes(out: &mut [u8], place: usize, bytes: &[u8]) -> usize
-    requires { ⌜ place + length (now bytes) ≤ length (now out) ⌝ }
-    ensures { λ r. ⌜ (r ≡ place + length (now (bytes .entry))) × (now (out .exit) ≡ overlay (now (out .entry)) place (now (bytes .entry))) ⌝ }
+// Writes a number at the start of the lent room, and answers how many bytes it takes.
+fn put_number(out: &mut [u8], n: u32, width: Width) -> usize
+    requires { ⌜ (n < 256 ^ bytesIn width) × (4 ≤ length (now out)) ⌝ }
+    ensures { λ r. ⌜ (r ≤ 4) × (take r (now (out .exit)) ≡ bigEndian (bytesIn width) n) ⌝ }
 {
-    let mut o = place;
-    let mut i: usize = 0;
-    while i < bytes.len() {
-        out[o] = bytes[i];
-        o += 1;
-        i += 1;
-    }
-    o
-}
-
-// Writes a number, and answers the place after it.
-fn put_number(out: &mut [u8], place: usize, n: u32, width: Width) -> usize
-    requires { ⌜ (n < 256 ^ bytesIn width) × (place + bytesIn width ≤ length (now out)) ⌝ }
-    ensures { λ r. ⌜ (r ≡ place + bytesIn width) × (now (out .exit) ≡ overlay (now (out .entry)) place (bigEndian (bytesIn width) n)) ⌝ }
-{
-    match payload::put(out, place, n, width) {
+    match payload::put(out, 0, n, width) {
         Placed::Next(next) => next,
-        Placed::Refused(_) => place,
+        Placed::Refused(_) => 0,
     }
 }
 
-// Writes a text and the 00 at its end, and answers the place after them.
-fn put_text(out: &mut [u8], place: usize, text: &[u8]) -> usize
-    requires { ⌜ place + (length (now text) + 1) ≤ length (now out) ⌝ }
-    ensures { λ r. ⌜ (r ≡ place + (length (now (text .entry)) + 1)) × (now (out .exit) ≡ overlay (now (out .entry)) place (now (text .entry) ++ (0 ∷ []))) ⌝ }
-{
-    let end = put_bytes(out, place, text);
-    out[end] = 0;
-    end + 1
-}
-
-// How many bytes the data take.
-fn data_size(content: Content, text: &[u8]) -> usize
-    ensures { λ r. ⌜ r ≡ length (dataOf content (now (text .entry))) ⌝ }
+// Writes the data after the text, which only a product type has, and answers how many bytes they take.
+fn put_data(out: &mut [u8], content: Content) -> usize
+    requires { ⌜ 4 ≤ length (now out) ⌝ }
+    ensures { λ r. ⌜ (r ≤ 4) × (take r (now (out .exit)) ≡ dataOf content []) ⌝ }
 {
     match content {
         Content::Nothing => 0,
-        Content::Float(_) => 4,
-        Content::U16(_) => 2,
-        Content::U32(_) => 4,
-        Content::Validity(_) => 1,
-        Content::Address(_) => 1,
-        Content::Baud(_) => 4,
-        Content::Text => text.len() + 1,
+        Content::Float(x) => put_number(out, bits_of_reading(x), Width::Four),
+        Content::U16(n) => put_number(out, wide16(n), Width::Two),
+        Content::U32(n) => put_number(out, n, Width::Four),
+        Content::Validity(v) => put_number(out, wide8(v), Width::One),
+        Content::Address(a) => put_number(out, wide8(a), Width::One),
+        Content::Baud(rate) => put_number(out, rate, Width::Four),
+        Content::Text => put_number(out, 0, Width::One),
         Content::Error(_) => 0,
-    }
-}
-
-// Writes the data, and answers the place after them.
-fn put_data(out: &mut [u8], place: usize, content: Content, text: &[u8]) -> usize
-    requires { ⌜ place + length (dataOf content (now text)) ≤ length (now out) ⌝ }
-    ensures { λ r. ⌜ (r ≡ place + length (dataOf content (now (text .entry)))) × (now (out .exit) ≡ overlay (now (out .entry)) place (dataOf content (now (text .entry)))) ⌝ }
-{
-    match content {
-        Content::Nothing => place,
-        Content::Float(x) => put_number(out, place, bits_of_reading(x), Width::Four),
-        Content::U16(n) => put_number(out, place, wide16(n), Width::Two),
-        Content::U32(n) => put_number(out, place, n, Width::Four),
-        Content::Validity(v) => put_number(out, place, wide8(v), Width::One),
-        Content::Address(a) => put_number(out, place, wide8(a), Width::One),
-        Content::Baud(rate) => put_number(out, place, rate, Width::Four),
-        Content::Text => put_text(out, place, text),
-        Content::Error(_) => place,
     }
 }
 
@@ -463,6 +421,25 @@ fn state_of(content: Content, bit7: bool) -> u8
     code + high(bit7)
 }
 
+// Writes the frame of a reply whose data are a text and what follows it: 5 and 1.
+fn write_parts(
+    address: u8,
+    command: u8,
+    state: u8,
+    text: &[u8],
+    last: &[u8],
+    out: &mut [u8],
+) -> Written
+    ensures { λ r. ⌜ (paperWritten r, now (out .exit)) ≡ lay (inOrder ((ltb 255 (length (now (text .entry) ++ now (last .entry))), number 5) ∷ []) (frameOf (bodyOf address command state (now (text .entry) ++ now (last .entry))))) (now (out .entry)) ⌝ }
+{
+    let size = text.len() + last.len();
+    if 255 < size {
+        return Written::Refused(Refusal::BodyTooLong);
+    }
+    let head = [address, command, state, size as u8];
+    shdlc::written_of(shdlc::lay_parts(&head, text, last, out))
+}
+
 // Writes the frame of what a reply carries: 5 and 1.
 fn write_content(
     address: u8,
@@ -475,15 +452,13 @@ fn write_content(
     requires { ⌜ (outOfRange content ≡ false) × (badText content (now text) ≡ false) ⌝ }
     ensures { λ r. ⌜ (paperWritten r, now (out .exit)) ≡ lay (inOrder ((ltb 255 (length (dataOf content (now (text .entry)))), number 5) ∷ []) (frameFor address command content (now (text .entry)) bit7)) (now (out .entry)) ⌝ }
 {
-    let size = data_size(content, text);
-    if 255 < size {
-        return Written::Refused(Refusal::BodyTooLong);
+    let state = state_of(content, bit7);
+    let mut rest = [0u8; 4];
+    let end = put_data(&mut rest, content);
+    if let Content::Text = content {
+        return write_parts(address, command, state, text, &rest[..end], out);
     }
-    let head = [address, command, state_of(content, bit7), size as u8];
-    let mut body = [0u8; 259];
-    let place = put_bytes(&mut body, 0, &head);
-    let end = put_data(&mut body, place, content, text);
-    shdlc::write_frame(&body[..end], out)
+    write_parts(address, command, state, &text[..0], &rest[..end], out)
 }
 
 // Writes the frame of the reply to a request at the start of the lent room. The text is that of a product type; beside any other

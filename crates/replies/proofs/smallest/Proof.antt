@@ -18,11 +18,12 @@ abbrev μ-loop : tie.MeasureT-loop
 
 loop-again : tie.Need-loop-again Inv-loop μ-loop
 loop-again c =
-    let b = c .before .before .before in
-    (omega arith,
-    smallest-later _ _ _ _ (c .before .before .loop-test .taken)
-    (⊎-elim (λ w. omega arith) (λ w. omega arith) (c .if1 .came))
-    (b .loop .inv .1))
+    let b = c .before .before .before in (
+      omega arith,
+      smallest-later _ _ _ _ (c .before .before .loop-test .taken)
+          (⊎-elim (λ w. omega arith) (λ w. omega arith) (c .if1 .came))
+          (b .loop .inv .1),
+    )
 
 pub smallest-spec : {M : Type 1} → statement M
 smallest-spec =
