@@ -29,7 +29,7 @@ static volatile size_t sink;
 /* ---- the jobs ---- */
 
 static struct { const uint8_t *bytes; size_t n, piece; } wire;
-static uint8_t record[264], frame[260], out[LONGEST];
+static uint8_t record[264], frame[260], plain_frame[260], out[LONGEST];
 static struct plain_receiver receiver;
 
 static size_t smaller(size_t a, size_t b)
@@ -37,7 +37,25 @@ static size_t smaller(size_t a, size_t b)
     return a < b ? a : b;
 }
 
-static void feed_library(void)
+static struct plain_fed feed_library_once(const uint8_t *piece, size_t n)
+{
+    mfc_fed fed = mfc_feed(record, sizeof record, piece, n, frame, sizeof frame);
+
+    return (struct plain_fed){ fed.refusal, fed.frame_length, fed.taken };
+}
+
+static struct plain_fed feed_plain_once(const uint8_t *piece, size_t n)
+{
+    return plain_feed(&receiver, piece, n, plain_frame, sizeof plain_frame);
+}
+
+static struct plain_fed feed_own_once(const uint8_t *piece, size_t n)
+{
+    return plain_feed_own(&receiver, piece, n);
+}
+
+/* The whole traffic in pieces. It is laid into each of the three below, so that the calls are direct ones. */
+static inline void feed_all(struct plain_fed (*once)(const uint8_t *, size_t))
 {
     size_t frames = 0;
 
@@ -46,7 +64,7 @@ static void feed_library(void)
         size_t left = smaller(wire.piece, wire.n - at);
 
         while (left > 0) {
-            mfc_fed fed = mfc_feed(record, sizeof record, piece, left, frame, sizeof frame);
+            struct plain_fed fed = once(piece, left);
 
             frames += fed.frame_length;
             piece += fed.taken;
@@ -56,24 +74,9 @@ static void feed_library(void)
     sink = frames;
 }
 
-static void feed_plain(void)
-{
-    size_t frames = 0;
-
-    for (size_t at = 0; at < wire.n; at += wire.piece) {
-        const uint8_t *piece = wire.bytes + at;
-        size_t left = smaller(wire.piece, wire.n - at);
-
-        while (left > 0) {
-            size_t taken = plain_feed(&receiver, piece, left);
-
-            frames += receiver.frame_length;
-            piece += taken;
-            left -= taken;
-        }
-    }
-    sink = frames;
-}
+static void feed_library(void) { feed_all(feed_library_once); }
+static void feed_plain(void) { feed_all(feed_plain_once); }
+static void feed_own(void) { feed_all(feed_own_once); }
 
 /* A round's requests, each into the room left behind the one before. */
 static void requests_library(void)
@@ -218,10 +221,11 @@ static void compare_feeds(uint8_t kind, const uint8_t *bytes, size_t n, size_t p
     for (size_t at = 0; at < n;) {
         size_t length = smaller(piece, n - at);
         mfc_fed fed = mfc_feed(record, sizeof record, bytes + at, length, frame, sizeof frame);
-        size_t taken = plain_feed(&receiver, bytes + at, length);
+        struct plain_fed plain = plain_feed(&receiver, bytes + at, length, plain_frame, sizeof plain_frame);
+        size_t taken = plain.taken;
 
-        compare(fed.taken == taken && fed.refusal == receiver.refusal && fed.frame_length == receiver.frame_length
-                && memcmp(frame, receiver.store, fed.frame_length) == 0, "feed");
+        compare(fed.taken == taken && fed.refusal == plain.refusal && fed.frame_length == plain.frame_length
+                && memcmp(frame, plain_frame, fed.frame_length) == 0, "feed");
         if (taken == 0 || fed.taken != taken)
             return;
         at += taken;
@@ -459,14 +463,14 @@ static void measure(const char *name, const char *unit, size_t units, void (*lib
     (void)fflush(stdout);
 }
 
-static void measure_feed(const char *name, const uint8_t *bytes, size_t n, size_t piece)
+static void measure_feed(const char *name, const uint8_t *bytes, size_t n, size_t piece, void (*plain)(void))
 {
     (void)mfc_receiver_fresh(1, record, sizeof record);
     plain_fresh(&receiver, 1);
     wire.bytes = bytes;
     wire.n = n;
     wire.piece = piece;
-    measure(name, "byte", n, feed_library, feed_plain);
+    measure(name, "byte", n, feed_library, plain);
 }
 
 static void measure_crc(const char *table, const char *folded, size_t n, size_t row)
@@ -480,12 +484,18 @@ static void measure_crc(const char *table, const char *folded, size_t n, size_t 
 static void measure_all(void)
 {
     (void)printf("%-50s %10s %10s %7s   %s\n", "job", "library", "plain C", "ratio", "half of the ratios lie in");
-    measure_feed("receive polling traffic, pieces of 1", polling, polling_n, 1);
-    measure_feed("receive polling traffic, pieces of 16", polling, polling_n, 16);
-    measure_feed("receive polling traffic, pieces of 4,096", polling, polling_n, 4096);
-    measure_feed("receive traffic full of escapes, pieces of 1", escapes, escapes_n, 1);
-    measure_feed("receive traffic full of escapes, pieces of 16", escapes, escapes_n, 16);
-    measure_feed("receive traffic full of escapes, pieces of 4,096", escapes, escapes_n, 4096);
+    measure_feed("receive polling traffic, pieces of 1", polling, polling_n, 1, feed_plain);
+    measure_feed("receive polling traffic, pieces of 16", polling, polling_n, 16, feed_plain);
+    measure_feed("receive polling traffic, pieces of 4,096", polling, polling_n, 4096, feed_plain);
+    measure_feed("receive traffic full of escapes, pieces of 1", escapes, escapes_n, 1, feed_plain);
+    measure_feed("receive traffic full of escapes, pieces of 16", escapes, escapes_n, 16, feed_plain);
+    measure_feed("receive traffic full of escapes, pieces of 4,096", escapes, escapes_n, 4096, feed_plain);
+    measure_feed("  C without tests or copy, polling, pieces of 1", polling, polling_n, 1, feed_own);
+    measure_feed("  C without tests or copy, polling, pieces of 16", polling, polling_n, 16, feed_own);
+    measure_feed("  C without tests or copy, polling, 4,096", polling, polling_n, 4096, feed_own);
+    measure_feed("  C without tests or copy, escapes, pieces of 1", escapes, escapes_n, 1, feed_own);
+    measure_feed("  C without tests or copy, escapes, pieces of 16", escapes, escapes_n, 16, feed_own);
+    measure_feed("  C without tests or copy, escapes, 4,096", escapes, escapes_n, 4096, feed_own);
     measure("write the requests of a polling round", "frame", POLLS, requests_library, requests_plain);
     measure("write set setpoint", "frame", POLLS, setpoints_library, setpoints_plain);
     text = letters;

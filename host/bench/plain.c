@@ -39,15 +39,14 @@ static uint8_t judge(const struct plain_receiver *receiver, unsigned mode, unsig
     return sum == 0xFF ? 0 : 8;
 }
 
-size_t plain_feed(struct plain_receiver *receiver, const uint8_t *piece, size_t n)
+static inline struct plain_fed feed(struct plain_receiver *receiver, const uint8_t *piece, size_t n)
 {
+    struct plain_fed fed = { 0, 0, 0 };
     unsigned mode = receiver->mode;
     unsigned length = receiver->length;
     uint8_t sum = receiver->sum;
     size_t at = 0;
 
-    receiver->refusal = 0;
-    receiver->frame_length = 0;
     while (at < n) {
         uint8_t byte = piece[at++];
 
@@ -56,8 +55,8 @@ size_t plain_feed(struct plain_receiver *receiver, const uint8_t *piece, size_t 
 
             mode = PLAIN;
             if (closed > PLAIN || (closed == PLAIN && length > 0)) {
-                receiver->refusal = judge(receiver, closed, length, sum);
-                receiver->frame_length = (uint16_t)(receiver->refusal == 0 ? length : 0);
+                fed.refusal = judge(receiver, closed, length, sum);
+                fed.frame_length = fed.refusal == 0 ? length : 0;
                 length = 0;
                 sum = 0;
                 break;
@@ -91,7 +90,31 @@ size_t plain_feed(struct plain_receiver *receiver, const uint8_t *piece, size_t 
     receiver->mode = (uint8_t)mode;
     receiver->length = (uint16_t)length;
     receiver->sum = sum;
-    return at;
+    fed.taken = at;
+    return fed;
+}
+
+struct plain_fed plain_feed(struct plain_receiver *receiver, const uint8_t *piece, size_t n, uint8_t *frame, size_t room)
+{
+    struct plain_fed fed = { 0, 0, 0 };
+
+    if (receiver->kind > 1 || receiver->mode > BARE || receiver->length > (receiver->mode == OUTSIDE ? 0 : STORE + 1)) {
+        fed.refusal = 2;
+        return fed;
+    }
+    if (room < STORE) {
+        fed.refusal = 1;
+        return fed;
+    }
+    fed = feed(receiver, piece, n);
+    if (fed.frame_length > 0)
+        memcpy(frame, receiver->store, fed.frame_length);
+    return fed;
+}
+
+struct plain_fed plain_feed_own(struct plain_receiver *receiver, const uint8_t *piece, size_t n)
+{
+    return feed(receiver, piece, n);
 }
 
 uint8_t plain_silence(struct plain_receiver *receiver)

@@ -6,16 +6,15 @@
 #include <stddef.h>
 #include <stdint.h>
 
-/* A receiver hands out its own store, so no frame is copied: a body stands there until the next byte is fed. */
 struct plain_receiver {
     uint8_t kind;                /* 0 requests, 1 replies */
     uint8_t mode;
     uint8_t sum;                 /* of the body so far */
-    uint8_t refusal;             /* of the last call's item, else 0 */
     uint16_t length;             /* of the body so far, stopping at 261 */
-    uint16_t frame_length;       /* of the last call's frame, else 0 */
     uint8_t store[260];
 };
+
+struct plain_fed { uint8_t refusal; size_t frame_length, taken; };
 
 struct plain_written { uint8_t refusal; size_t length; };
 struct plain_words { uint8_t refusal; size_t count; };
@@ -23,8 +22,12 @@ struct plain_reply { uint8_t refusal, code, bit7, reply; uint32_t value; size_t 
 
 void plain_fresh(struct plain_receiver *receiver, uint8_t kind);
 
-/* Takes bytes up to the end of the first item, or all; returns how many. */
-size_t plain_feed(struct plain_receiver *receiver, const uint8_t *piece, size_t n);
+/* Takes bytes up to the end of the first item, or all. A frame's body stands at the start of frame. Refuses a record out of its
+   ranges, and a room under 260. */
+struct plain_fed plain_feed(struct plain_receiver *receiver, const uint8_t *piece, size_t n, uint8_t *frame, size_t room);
+
+/* Does less: it trusts its record, and hands out its own store, where a body stands until the next byte is fed. */
+struct plain_fed plain_feed_own(struct plain_receiver *receiver, const uint8_t *piece, size_t n);
 
 /* Returns 9 where the silence cut a stretch, else 0. */
 uint8_t plain_silence(struct plain_receiver *receiver);
