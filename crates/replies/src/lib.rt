@@ -385,7 +385,8 @@ fn put_number(out: &mut [u8], n: u32, width: Width) -> usize
     }
 }
 
-// Writes the data after the text, which only a product type has, and answers how many bytes they take.
+// Writes the data but for the text of a product type, of which only the 00 at its end is written here, and answers how many bytes they
+// take.
 fn put_data(out: &mut [u8], content: Content) -> usize
     requires { ⌜ 4 ≤ length (now out) ⌝ }
     ensures { λ r. ⌜ (r ≤ 4) × (take r (now (out .exit)) ≡ dataOf content []) ⌝ }
@@ -421,7 +422,7 @@ fn state_of(content: Content, bit7: bool) -> u8
     code + high(bit7)
 }
 
-// Writes the frame of a reply whose data are a text and what follows it: 5 and 1.
+// Writes the frame of a reply whose data are a text, which may be empty, and what follows it: 5 and 1.
 fn write_parts(
     address: u8,
     command: u8,
@@ -575,8 +576,8 @@ fn number_of(answer: Answer, body: &[u8]) -> u32
     }
 }
 
-// What the data of a reply stand for, once their length is settled. `read_number` is called at one place, so that
-// the compiler inlines it.
+// What the data of a reply stand for, once their length is settled. `read_number` is called at one place, so that the compiler inlines
+// it.
 fn read_data(request: Request, answer: Answer, body: &[u8], bit7: bool) -> ReadReply
     requires { ⌜ (answer ≡ row request .answer) × (isSize (sizeOf answer) (length (now body) - 5) ≡ true) × (5 ≤ length (now body)) ⌝ }
     ensures { λ r. ⌜ paperRead r ≡ withBit7 (inOrder (valueChecks (replyTo request (big (dataIn (now (body .entry)))))) (gotBy (sizeOf answer) request (dataIn (now (body .entry))))) bit7 ⌝ }
