@@ -8,76 +8,37 @@ use crate::requests::place;
 use crate::requests::wide;
 use refusal::Refusal;
 use replies::ReadReply;
-use replies::Reading;
 use replies::Reply;
 use sfc6::Request;
 use shdlc::Checked;
 ghost use mathlib.Core.Path.{_≡_};
 ghost use mathlib.Core.Bool.{cond};
-ghost use Prim.Native.Nat.{min};
 ghost use Rattle.refusal.specs.Refusals.{paper, refused};
-ghost use Rattle.replies.specs.Replies.{bitsOf, readingOf, replyTo, kindOf};
+ghost use Rattle.replies.specs.Replies.{replyTo, kindOf};
 ghost use Rattle.replies.specs.Paper.{paperRead};
 ghost use Rattle.mfc.specs.Answering.{replyAt, unsayable, refusalOf, valueOf, replyIn, writeAnswer, readAnswer};
 
-// The bits that a reading is sent by.
-fn bits(x: Reading) -> u32
-    ensures { λ r. ⌜ r ≡ bitsOf x ⌝ }
-{
-    match x {
-        Reading::Finite(v) => sfc6::bits_of(v),
-        Reading::Invalid => 0xFFFF_FFFF,
-        Reading::PlusInfinity => 0x7F80_0000,
-        Reading::MinusInfinity => 0xFF80_0000,
-    }
-}
-
-// The reading of its bits.
-fn reading_of(bits: u32) -> Reading
-    ensures { λ r. ⌜ r ≡ readingOf bits ⌝ }
-{
-    match bits {
-        0xFFFF_FFFF => Reading::Invalid,
-        0x7F80_0000 => Reading::PlusInfinity,
-        0xFF80_0000 => Reading::MinusInfinity,
-        _ => Reading::Finite(sfc6::float_of(bits)),
-    }
-}
-
-// A number as a u16 and as a byte; 255 is out of range where a reply carries a byte.
-fn as_u16(n: u32) -> u16
-    ensures { λ r. ⌜ r ≡ min n 65535 ⌝ }
-{
-    if n < 65535 { n as u16 } else { 65535 }
-}
-
-fn as_u8(n: u32) -> u8
-    ensures { λ r. ⌜ r ≡ min n 255 ⌝ }
-{
-    if n < 255 { n as u8 } else { 255 }
-}
-
-// The reply of its number, 0 to 15, and of its value.
+// The reply of its number, 0 to 15, and of its value. A value over a byte becomes 255, which is out of range where a reply carries a byte.
 fn reply_of(number: u8, n: u32) -> Reply
     ensures { λ r. ⌜ r ≡ replyAt number n ⌝ }
 {
     match number {
         0 => Reply::Acknowledged,
-        1 => Reply::Setpoint(reading_of(n)),
-        2 => Reply::MeasuredValue(reading_of(n)),
-        3 => Reply::Gain(reading_of(n)),
-        4 => Reply::InitStep(reading_of(n)),
-        5 => Reply::RawFlow(as_u16(n)),
-        6 => Reply::RawConductivity(as_u16(n)),
-        7 => Reply::Temperature(reading_of(n)),
+        1 => Reply::Setpoint(replies::reading_of(n)),
+        2 => Reply::MeasuredValue(replies::reading_of(n)),
+        3 => Reply::Gain(replies::reading_of(n)),
+        4 => Reply::InitStep(replies::reading_of(n)),
+        5 => Reply::RawFlow(replies::capped_u16(n)),
+        6 => Reply::RawConductivity(replies::capped_u16(n)),
+        7 => Reply::Temperature(replies::reading_of(n)),
         8 => Reply::NumberOfCalibrations(n),
-        9 => Reply::Validity(as_u8(n)),
-        10 => Reply::FullScale(reading_of(n)),
+        9 => Reply::Validity(replies::capped_u8(n)),
+        10 => Reply::FullScale(replies::reading_of(n)),
         11 => Reply::Calibration(n),
-        12 => Reply::Address(as_u8(n)),
+        12 => Reply::Address(replies::capped_u8(n)),
         13 => Reply::Baud(n),
         14 => Reply::ProductType,
-        _ => Reply::DeviceError(as_u8(n)),
+        _ => Reply::DeviceError(replies::capped_u8(n)),
     }
 }
 
@@ -146,16 +107,16 @@ fn value_of(reply: Reply) -> u32
 {
     match reply {
         Reply::Acknowledged => 0,
-        Reply::Setpoint(x) => bits(x),
-        Reply::MeasuredValue(x) => bits(x),
-        Reply::Gain(x) => bits(x),
-        Reply::InitStep(x) => bits(x),
+        Reply::Setpoint(x) => replies::bits_of_reading(x),
+        Reply::MeasuredValue(x) => replies::bits_of_reading(x),
+        Reply::Gain(x) => replies::bits_of_reading(x),
+        Reply::InitStep(x) => replies::bits_of_reading(x),
         Reply::RawFlow(n) => wide16(n),
         Reply::RawConductivity(n) => wide16(n),
-        Reply::Temperature(x) => bits(x),
+        Reply::Temperature(x) => replies::bits_of_reading(x),
         Reply::NumberOfCalibrations(n) => n,
         Reply::Validity(v) => wide(v),
-        Reply::FullScale(x) => bits(x),
+        Reply::FullScale(x) => replies::bits_of_reading(x),
         Reply::Calibration(n) => n,
         Reply::Address(a) => wide(a),
         Reply::Baud(rate) => rate,

@@ -2,12 +2,14 @@
 use mathlib.Core.Path.{_≡_, refl, sym, ap, subst, _∙_}
 use mathlib.Core.Bool.{Bool, true, false, cond, not, _||_}
 use mathlib.Core.List.{List, [], _∷_, _++_}
-use mathlib.Core.Option.{Option, none, some}
-use Prim.Native.Nat.{ℕ, _+_, _-_, min, _≤_}
+use mathlib.Core.Option.{Option, none, some, Option·getD}
+use Prim.Native.Nat.{ℕ, _+_, _-_, _≤_}
 use native.Mathlib.Omega.{arith}
 use lib.Dec.{T, eqb}
 use lib.ListN.{length, getD, take, drop}
 use borrow.Author.Tests.{eq-eqb, ne-eqb, eqb-true, not-false}
+use types.Run.{OneOf}
+use denote.Enum.Declared.{tagOf}
 use Rattle.refusal.specs.declared.Refusal.{Refusal}
 use Rattle.refusal.specs.Refusals.{Numbered, number, _carrying_, numberIn, Answered, served, refused, paper, inOrder}
 use Rattle.shdlc.specs.declared.Kind.the-variants as kind
@@ -18,10 +20,10 @@ use Rattle.shdlc.specs.Paper.{paperChecked}
 use Rattle.shdlc.proofs.Body.{passes}
 use Rattle.payload.specs.Field.{big}
 use Rattle.sfc6.specs.declared.Request.{Request}
-use Rattle.sfc6.specs.declared.Request.the-variants as request
 use Rattle.sfc6.specs.declared.Row.{Row}
 use Rattle.sfc6.specs.declared.Answer.{Answer}
 use Rattle.sfc6.specs.declared.Answer.the-variants as answer
+use Rattle.sfc6.proofs.Answer as answer-type
 use Rattle.sfc6.specs.Commands.{row}
 use Rattle.sfc6.specs.Requests.{requestChecks, checkRequest}
 use Rattle.sfc6.specs.Paper.{paperPassed}
@@ -29,43 +31,10 @@ use Rattle.sfc6.proofs.Order.{never, first-refuses, then-more}
 use Rattle.replies.specs.declared.Reply.{Reply}
 use Rattle.replies.specs.declared.Content.{Content}
 use Rattle.replies.specs.declared.Content.the-variants as content
-use Rattle.replies.specs.Replies.{readingOf, replyTo, contentOf, outOfRange, badFloat}
+use Rattle.replies.specs.Replies.{replyTo, contentOf, outOfRange, badFloat}
 use Rattle.replies.specs.Reader.{codeIn, bit7In, lengthIn, dataIn, sizeOf, isSize, foreign, textIn, Got, value, text, gotBy, valueChecks, readChecks, answerTo, withBit7, readReply}
-
--- what is carried by the reply of a number, by the form that the table says
-unfoldable pub contentFrom : Answer → ℕ → Content
-contentFrom answer.Nothing n = content.Nothing
-contentFrom answer.Float n = content.Float (readingOf n)
-contentFrom answer.U16 n = content.U16 (min n 65535)
-contentFrom answer.U32 n = content.U32 n
-contentFrom answer.Validity n = content.Validity (min n 255)
-contentFrom answer.Address n = content.Address (min n 255)
-contentFrom answer.Baud n = content.Baud n
-contentFrom answer.Text n = content.Text
-
-pub content-from : (q : Request) (n : ℕ) → contentOf (replyTo q n) ≡ contentFrom (row q .answer) n
-unfolding row contentFrom
-content-from request.GetSetpoint n = refl
-content-from (request.SetSetpoint x) n = refl
-content-from request.MeasuredValue n = refl
-content-from request.GetGain n = refl
-content-from (request.SetGain x) n = refl
-content-from request.GetInitStep n = refl
-content-from (request.SetInitStep x) n = refl
-content-from request.RawFlow n = refl
-content-from request.RawConductivity n = refl
-content-from request.Temperature n = refl
-content-from request.NumberOfCalibrations n = refl
-content-from (request.Validity index) n = refl
-content-from request.FullScale n = refl
-content-from request.GetCalibration n = refl
-content-from (request.SetCalibration c) n = refl
-content-from (request.VolatileCalibration c) n = refl
-content-from request.GetAddress n = refl
-content-from (request.SetAddress a) n = refl
-content-from request.GetBaud n = refl
-content-from (request.SetBaud rate) n = refl
-content-from request.ProductType n = refl
+use Rattle.replies.proofs.Apart.{apart}
+use Rattle.replies.proofs.Table.{contentFrom, tabled}
 
 -- ---- the reply of a number
 abbrev pub ofNumber : Request → ℕ → Bool → Answered Got × Option Bool
@@ -86,19 +55,41 @@ module _ (q : Request) (n : ℕ) (bit7 : Bool) {r : Reply} (is : r ≡ replyTo q
 abbrev pub ofData : Request → Answer → List ℕ → Bool → Answered Got × Option Bool
 ofData q a body bit7 = withBit7 (inOrder (valueChecks (replyTo q (big (dataIn body)))) (gotBy (sizeOf a) q (dataIn body))) bit7
 
-module _ (body : List ℕ) {a known : Answer} (is : a ≡ known) where
-  -- the length is the table's
-  pub settled : (width : ℕ) → sizeOf known ≡ some width → isSize (sizeOf a) (length body - 5) ≡ true → length body - 5 ≡ width
-  settled width e h =
-      eqb-true _ _ (sym (ap (λ (s : Option ℕ). isSize s (length body - 5)) (ap sizeOf is ∙ e)) ∙ h)
+-- how many data bytes the number has; a text has none
+abbrev pub count : Answer → ℕ
+count a = Option·getD (sizeOf a) 0
 
-  pub number-from : (q : Request) (bit7 : Bool) (width : ℕ) → sizeOf known ≡ some width → isSize (sizeOf a) (length body - 5) ≡ true
-      → {n : ℕ} → n ≡ big (take width (drop 4 body)) → {o : Answered Got × Option Bool} → o ≡ ofNumber q n bit7 → o ≡ ofData q a body bit7
-  unfolding dataIn
-  number-from q bit7 width e h {n} f g =
-      let s : sizeOf a ≡ some width = ap sizeOf is ∙ e in
-      let d : n ≡ big (take (length body - 5) (drop 4 body)) = rw (settled width e h) f in
-      rw (s, ← d) g
+pub count-there : (a : Answer) (n : ℕ) → isSize (sizeOf a) (n - 5) ≡ true → 5 ≤ n → 4 + count a ≤ n
+count-there a n = go (sizeOf a)
+  where
+    go : (s : Option ℕ) → isSize s (n - 5) ≡ true → 5 ≤ n → 4 + Option·getD s 0 ≤ n
+    go none h k = omega arith
+    go (some width) h k = omega (arith, eqb-true (n - 5) width h)
+
+pub number-told : {a known : Answer} → a ≡ known → (body : List ℕ) {n : ℕ} → n ≡ big (take (count known) (drop 4 body))
+    → n ≡ big (take (count a) (drop 4 body))
+number-told is body f = rw is f
+
+-- all forms but a text are numbers of the table's length
+numbered : (a : Answer) → OneOf (0 ∷ 1 ∷ 2 ∷ 3 ∷ 4 ∷ 5 ∷ 6 ∷ []) (tagOf answer-type.the-type a) → sizeOf a ≡ some (count a)
+numbered answer.Nothing o = refl
+numbered answer.Float o = refl
+numbered answer.U16 o = refl
+numbered answer.U32 o = refl
+numbered answer.Validity o = refl
+numbered answer.Address o = refl
+numbered answer.Baud o = refl
+numbered answer.Text o = absurd (apart (0 ∷ 1 ∷ 2 ∷ 3 ∷ 4 ∷ 5 ∷ 6 ∷ []) _ 7 o refl refl)
+
+pub number-from : (q : Request) (a : Answer) (body : List ℕ) (bit7 : Bool)
+    → OneOf (0 ∷ 1 ∷ 2 ∷ 3 ∷ 4 ∷ 5 ∷ 6 ∷ []) (tagOf answer-type.the-type a) → isSize (sizeOf a) (length body - 5) ≡ true
+    → {n : ℕ} → n ≡ big (take (count a) (drop 4 body)) → {r : Answered Got × Option Bool} → r ≡ ofNumber q n bit7 → r ≡ ofData q a body bit7
+unfolding dataIn
+number-from q a body bit7 o h {n} f g =
+    let s = numbered a o in
+    let w : length body - 5 ≡ count a = eqb-true _ _ (sym (ap (λ (x : Option ℕ). isSize x (length body - 5)) s) ∙ h) in
+    let d : n ≡ big (take (length body - 5) (drop 4 body)) = rw w f in
+    rw (s, ← d) g
 
 pub text-from : (q : Request) (a : Answer) (body : List ℕ) (bit7 : Bool) (n : ℕ) → a ≡ answer.Text → a ≡ row q .answer
     → n ≡ length (textIn (take (length body - 1 - 4) (drop 4 body)))
@@ -106,7 +97,7 @@ pub text-from : (q : Request) (a : Answer) (body : List ℕ) (bit7 : Bool) (n : 
 unfolding dataIn contentFrom
 text-from q a body bit7 n is e f =
     let m : length body - 1 - 4 ≡ length body - 5 = omega arith in
-    let c : contentOf (replyTo q (big (dataIn body))) ≡ content.Text = content-from q (big (dataIn body)) ∙ ap (λ (x : Answer). contentFrom x (big (dataIn body))) (sym e ∙ is) in
+    let c : contentOf (replyTo q (big (dataIn body))) ≡ content.Text = tabled q (big (dataIn body)) .carried ∙ ap (λ (x : Answer). contentFrom x (big (dataIn body))) (sym e ∙ is) in
     rw (c, is, f, m)
 
 -- ---- the whole

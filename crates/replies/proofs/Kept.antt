@@ -3,10 +3,10 @@ use mathlib.Core.Path.{_≡_, refl, sym, ap, subst, _∙_}
 use mathlib.Core.Bool.{Bool, true, false, cond, not, _||_}
 use mathlib.Core.List.{List, [], _∷_, _++_}
 use mathlib.Core.Option.{Option, none, some}
-use Prim.Native.Nat.{ℕ, _/_, _%_, _^_, min, _<_}
+use Prim.Native.Nat.{ℕ, _-_, _/_, _%_, _^_, min, _<_}
 use native.Mathlib.Omega.{arith}
 use lib.Dec.{T, eqb, ltb}
-use lib.ListN.{length, getD}
+use lib.ListN.{length}
 use lib.Ieee.{Float, nan, inf, fin, binary32, isNan, toBits, ofBits}
 use lib.Ieee.Bits.{ofBits-toBits, toBits-lt, toBits-ofBits, nanBits-is}
 use borrow.Author.Tests.{eq-eqb, ne-eqb, eqb-true, eqb-false, ltb-true, ltb-false, not-false}
@@ -14,7 +14,6 @@ use Rattle.refusal.specs.Refusals.{served}
 use Rattle.payload.specs.Field.{big, bigEndian, Bytes}
 use Rattle.payload.proofs.Big.{big-of-big-endian, big-lt, big-endian-of-big}
 use Rattle.sfc6.specs.declared.Request.{Request}
-use Rattle.sfc6.specs.declared.Request.the-variants as request
 use Rattle.sfc6.specs.declared.Answer.{Answer}
 use Rattle.sfc6.specs.declared.Answer.the-variants as answer
 use Rattle.sfc6.specs.Commands.{row, finite, member}
@@ -29,7 +28,7 @@ use Rattle.replies.specs.Reader.{sizeOf, isSize, value, text, gotBy}
 use Rattle.replies.specs.ReadBack.{FitsReading, Fits, comesBack}
 use Rattle.replies.proofs.Carried.{or-false}
 use Rattle.replies.proofs.Text.{text-kept}
-use Rattle.replies.proofs.Answers.{contentFrom}
+use Rattle.replies.proofs.Table.{contentFrom, replyAt, answerAt, tabled}
 
 -- ---- readings
 no-coding : (b k : ℕ) → finite b ≡ true → finite k ≡ false → b ≡ k → ⊥
@@ -108,66 +107,6 @@ bad-pattern n h = go (eqb n 0xFFFFFFFF) (eqb n 0x7F800000) (eqb n 0xFF800000) re
     go false false false p q r =
         simp (p, q, r, flipped n 0xFFFFFFFF p, flipped n 0x7F800000 q, flipped n 0xFF800000 r) (nan-or-not n h ∙ ap not (sym (or-nothing (finite n))))
 
--- ---- the replies by the number of their kind: one table between requests and replies
-abbrev replyAt : ℕ → ℕ → Reply
-replyAt k =
-    getD
-    ((λ n. Acknowledged)
-    ∷ (λ n. Setpoint (readingOf n))
-    ∷ (λ n. MeasuredValue (readingOf n))
-    ∷ (λ n. Gain (readingOf n))
-    ∷ (λ n. InitStep (readingOf n))
-    ∷ (λ n. RawFlow (min n 65535))
-    ∷ (λ n. RawConductivity (min n 65535))
-    ∷ (λ n. Temperature (readingOf n))
-    ∷ NumberOfCalibrations
-    ∷ (λ n. Validity (min n 255))
-    ∷ (λ n. FullScale (readingOf n))
-    ∷ Calibration
-    ∷ (λ n. Address (min n 255))
-    ∷ Baud
-    ∷ [])
-    k (λ n. ProductType)
-
-abbrev answerAt : ℕ → Answer
-answerAt k =
-    getD
-    (answer.Nothing ∷ answer.Float ∷ answer.Float ∷ answer.Float ∷ answer.Float ∷ answer.U16 ∷ answer.U16 ∷ answer.Float ∷ answer.U32
-    ∷ answer.Validity ∷ answer.Float ∷ answer.U32 ∷ answer.Address ∷ answer.Baud ∷ [])
-    k answer.Text
-
-record Tabled (q : Request) (n : ℕ) : Type 0 where
-  reply : replyTo q n ≡ replyAt (kindOf (replyTo q 0)) n
-  form : row q .answer ≡ answerAt (kindOf (replyTo q 0))
-  kind : kindOf (replyTo q n) ≡ kindOf (replyTo q 0)
-
-tabled : (q : Request) (n : ℕ) → Tabled q n
-unfolding row
-tabled request.GetSetpoint n = record { reply = refl; form = refl; kind = refl }
-tabled (request.SetSetpoint x) n = record { reply = refl; form = refl; kind = refl }
-tabled request.MeasuredValue n = record { reply = refl; form = refl; kind = refl }
-tabled request.GetGain n = record { reply = refl; form = refl; kind = refl }
-tabled (request.SetGain x) n = record { reply = refl; form = refl; kind = refl }
-tabled request.GetInitStep n = record { reply = refl; form = refl; kind = refl }
-tabled (request.SetInitStep x) n = record { reply = refl; form = refl; kind = refl }
-tabled request.RawFlow n = record { reply = refl; form = refl; kind = refl }
-tabled request.RawConductivity n = record { reply = refl; form = refl; kind = refl }
-tabled request.Temperature n = record { reply = refl; form = refl; kind = refl }
-tabled request.NumberOfCalibrations n = record { reply = refl; form = refl; kind = refl }
-tabled (request.Validity index) n = record { reply = refl; form = refl; kind = refl }
-tabled request.FullScale n = record { reply = refl; form = refl; kind = refl }
-tabled request.GetCalibration n = record { reply = refl; form = refl; kind = refl }
-tabled (request.SetCalibration c) n = record { reply = refl; form = refl; kind = refl }
-tabled (request.VolatileCalibration c) n = record { reply = refl; form = refl; kind = refl }
-tabled request.GetAddress n = record { reply = refl; form = refl; kind = refl }
-tabled (request.SetAddress a) n = record { reply = refl; form = refl; kind = refl }
-tabled request.GetBaud n = record { reply = refl; form = refl; kind = refl }
-tabled (request.SetBaud rate) n = record { reply = refl; form = refl; kind = refl }
-tabled request.ProductType n = record { reply = refl; form = refl; kind = refl }
-
-pub same-kind-of-reply : (q : Request) (n : ℕ) → kindOf (replyTo q n) ≡ kindOf (replyTo q 0)
-same-kind-of-reply q n = tabled q n .kind
-
 -- ---- a reply that is written and read
 -- what its data are read as
 pub record Back (q : Request) (r : Reply) (words : List ℕ) : Type 0 where
@@ -189,11 +128,8 @@ number-back q r words k e width f g h i =
       got = ap (λ (s : Option ℕ). served (gotBy s q d)) form ∙ ap (λ (x : Reply). served (value x)) same ∙ sym i;
     }
 
-u8-back : (n : ℕ) → n < 2 ^ 8 → min (big (bigEndian 1 n)) 255 ≡ n
-u8-back n h = rw (big-of-big-endian 1 n h) (omega arith)
-
-u16-back : (n : ℕ) → n < 2 ^ 16 → min (big (bigEndian 2 n)) 65535 ≡ n
-u16-back n h = rw (big-of-big-endian 2 n h) (omega arith)
+capped-back : (count n : ℕ) → n < 256 ^ count → min (big (bigEndian count n)) (256 ^ count - 1) ≡ n
+capped-back count n h = rw (big-of-big-endian count n h) (omega arith)
 
 pub back : (q : Request) (r : Reply) (words : List ℕ) → Fits (contentOf r) → badFloat (contentOf r) ≡ false → badText (contentOf r) words ≡ false
     → (kindOf r ≡ 15 → ⊥) → kindOf (replyTo q 0) ≡ kindOf r → Back q r words
@@ -203,14 +139,14 @@ back q (Setpoint x) words h f t n e = number-back q (Setpoint x) words 1 e 4 ref
 back q (MeasuredValue x) words h f t n e = number-back q (MeasuredValue x) words 2 e 4 refl refl (ap MeasuredValue (reading-back x h f)) refl
 back q (Gain x) words h f t n e = number-back q (Gain x) words 3 e 4 refl refl (ap Gain (reading-back x h f)) refl
 back q (InitStep x) words h f t n e = number-back q (InitStep x) words 4 e 4 refl refl (ap InitStep (reading-back x h f)) refl
-back q (RawFlow n) words h f t m e = number-back q (RawFlow n) words 5 e 2 refl refl (ap RawFlow (u16-back n h)) refl
-back q (RawConductivity n) words h f t m e = number-back q (RawConductivity n) words 6 e 2 refl refl (ap RawConductivity (u16-back n h)) refl
+back q (RawFlow n) words h f t m e = number-back q (RawFlow n) words 5 e 2 refl refl (ap RawFlow (capped-back 2 n h)) refl
+back q (RawConductivity n) words h f t m e = number-back q (RawConductivity n) words 6 e 2 refl refl (ap RawConductivity (capped-back 2 n h)) refl
 back q (Temperature x) words h f t n e = number-back q (Temperature x) words 7 e 4 refl refl (ap Temperature (reading-back x h f)) refl
 back q (NumberOfCalibrations n) words h f t m e = number-back q (NumberOfCalibrations n) words 8 e 4 refl refl (ap NumberOfCalibrations (big-of-big-endian 4 n h)) refl
-back q (Validity n) words h f t m e = number-back q (Validity n) words 9 e 1 refl refl (ap Validity (u8-back n h)) refl
+back q (Validity n) words h f t m e = number-back q (Validity n) words 9 e 1 refl refl (ap Validity (capped-back 1 n h)) refl
 back q (FullScale x) words h f t n e = number-back q (FullScale x) words 10 e 4 refl refl (ap FullScale (reading-back x h f)) refl
 back q (Calibration n) words h f t m e = number-back q (Calibration n) words 11 e 4 refl refl (ap Calibration (big-of-big-endian 4 n h)) refl
-back q (Address n) words h f t m e = number-back q (Address n) words 12 e 1 refl refl (ap Address (u8-back n h)) refl
+back q (Address n) words h f t m e = number-back q (Address n) words 12 e 1 refl refl (ap Address (capped-back 1 n h)) refl
 back q (Baud n) words h f t m e = number-back q (Baud n) words 13 e 4 refl refl (ap Baud (big-of-big-endian 4 n h)) refl
 back q ProductType words h f t n e =
     let d = words ++ (0 ∷ []) in

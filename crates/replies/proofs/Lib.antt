@@ -1,9 +1,9 @@
 -- The laws of the definitions in specs/, a file for each subject.
 pub mod Apart
+pub mod Table
 pub mod Taking
 pub mod Text
 pub mod Carried
-pub mod Laid
 pub mod Belongs
 pub mod Writing
 pub mod Answers

@@ -19,7 +19,6 @@ use Rattle.shdlc.specs.Frame.{withChecksum, frameOf}
 use Rattle.shdlc.proofs.Body.{Passes, passes, checked-body}
 use Rattle.payload.specs.Field.{big, bigEndian, Bytes}
 use Rattle.sfc6.specs.declared.Request.{Request}
-use Rattle.sfc6.specs.declared.Request.the-variants as request
 use Rattle.sfc6.specs.declared.Row.{Row}
 use Rattle.sfc6.specs.Commands.{row, member}
 use Rattle.sfc6.specs.Requests.{requestChecks, checkRequest, lay}
@@ -36,8 +35,9 @@ use Rattle.replies.proofs.Carried.{or-false}
 use Rattle.replies.proofs.Taking.{same-kind}
 use Rattle.replies.proofs.Text.{text-clean, text-first, text-no-longer}
 use Rattle.replies.proofs.Writing.{frame}
-use Rattle.replies.proofs.Answers.{contentFrom, content-from, Without, not-number, got, lengths}
-use Rattle.replies.proofs.Kept.{same-kind-of-reply, empty, again}
+use Rattle.replies.proofs.Answers.{Without, not-number, got, lengths}
+use Rattle.replies.proofs.Table.{contentFrom, tabled}
+use Rattle.replies.proofs.Kept.{empty, again}
 use Rattle.replies.proofs.Written.{Accepted, to-write}
 
 nothing-said : {A : Type 0} {b : Bool} → none ≡ some b → A
@@ -232,7 +232,7 @@ value-again address q body b r bit7 h words room =
     let payload = dataIn body in
     let v = got-value (sizeOf (row q .answer)) q payload r (g .it) in
     let width = v .0 in
-    let c : contentOf r ≡ contentFrom (row q .answer) (big payload) = ap contentOf (sym (v .2)) ∙ content-from q (big payload) in
+    let c : contentOf r ≡ contentFrom (row q .answer) (big payload) = ap contentOf (sym (v .2)) ∙ tabled q (big payload) .carried in
     let l : length payload ≡ width =
     payload-length address q body bit7 p ∙ eqb-true _ _ (sym (ap (λ (s : Option ℕ). isSize s (lengthIn body)) (v .1)) ∙ g .size) in
     let float : badFloat (contentOf r) ≡ false = ap (λ (x : Reply). badFloat (contentOf x)) (sym (v .2)) ∙ g .float in
@@ -241,7 +241,7 @@ value-again address q body b r bit7 h words room =
     let a : Accepted address q r words = record {
       request-good = p .request-good;
       one = belongs address (row q) body (p .own) .0;
-      suit = same-kind q r (ap kindOf (sym (v .2)) ∙ same-kind-of-reply q (big payload));
+      suit = same-kind q r (ap kindOf (sym (v .2)) ∙ tabled q (big payload) .kind);
       in-range = ap (λ (x : Reply). outOfRange (contentOf x)) (sym (v .2)) ∙ g .range;
       good-text = ap (λ (x : Content). badText x words) c ∙ w .free;
       good-float = float;
@@ -278,33 +278,6 @@ error-again address q body b code bit7 h words room =
     same-bytes address q body bit7 p b (DeviceError code) words room a (empty (dataIn body) none-there) (sym e)
 
 -- ---- a text
-some-not-none : {A : Type 0} {n : ℕ} → some n ≡ none → A
-some-not-none h = absurd (let z : _≡_ {A = ℕ} 0 1 = cc in omega arith)
-
-text-request : (q : Request) (n : ℕ) → sizeOf (row q .answer) ≡ none → replyTo q n ≡ ProductType
-unfolding row
-text-request request.GetSetpoint n h = some-not-none h
-text-request (request.SetSetpoint x) n h = some-not-none h
-text-request request.MeasuredValue n h = some-not-none h
-text-request request.GetGain n h = some-not-none h
-text-request (request.SetGain x) n h = some-not-none h
-text-request request.GetInitStep n h = some-not-none h
-text-request (request.SetInitStep x) n h = some-not-none h
-text-request request.RawFlow n h = some-not-none h
-text-request request.RawConductivity n h = some-not-none h
-text-request request.Temperature n h = some-not-none h
-text-request request.NumberOfCalibrations n h = some-not-none h
-text-request (request.Validity index) n h = some-not-none h
-text-request request.FullScale n h = some-not-none h
-text-request request.GetCalibration n h = some-not-none h
-text-request (request.SetCalibration c) n h = some-not-none h
-text-request (request.VolatileCalibration c) n h = some-not-none h
-text-request request.GetAddress n h = some-not-none h
-text-request (request.SetAddress a) n h = some-not-none h
-text-request request.GetBaud n h = some-not-none h
-text-request (request.SetBaud rate) n h = some-not-none h
-text-request request.ProductType n h = refl
-
 module _ (address : ℕ) (q : Request) (body : List ℕ) (place n : ℕ) (bit7 : Bool) (h : readReply address q body ≡ (served (text place n), some bit7)) where
   abbrev p : Parts address q body (served (text place n)) bit7
   p = parts address q body (served (text place n)) bit7 h
@@ -324,7 +297,7 @@ module _ (address : ℕ) (q : Request) (body : List ℕ) (place n : ℕ) (bit7 :
       rw (← found .1, ← take-take n (length body - 5) (drop 4 body) l, ← found .2) (text-first (take (length body - 5) (drop 4 body)))
 
   suit : suits q ProductType ≡ true
-  suit = same-kind q ProductType (ap kindOf (sym (text-request q 0 (found .0))))
+  suit = same-kind q ProductType (sym (tabled q 0 .text (found .0)))
 
   length-words : length words ≡ n
   length-words = ap length text-placed ∙ found .2

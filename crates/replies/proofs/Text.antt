@@ -1,12 +1,12 @@
 -- The text before the first 00. Assumes nothing.
 use mathlib.Core.Path.{_≡_, refl, ap, subst, _∙_}
 use mathlib.Core.Bool.{Bool, true, false, cond, _||_}
-use mathlib.Core.List.{List, [], _∷_, _++_}
-use Prim.Native.Nat.{ℕ, suc, _+_, _≤_, _<_}
+use mathlib.Core.List.{List, [], _∷_, _++_, foldr}
+use Prim.Native.Nat.{ℕ, _+_, min, _≤_, _<_}
 use native.Mathlib.Omega.{arith}
-use lib.Dec.{T, eqb, ltb}
+use lib.Dec.{T, eqb}
 use lib.ListN.{length, getD, take, drop}
-use borrow.Author.Tests.{eq-eqb, ne-eqb, lt-ltb, le-ltb, ltb-true, ltb-false}
+use borrow.Author.Tests.{eq-eqb, ne-eqb, eqb-true, eqb-false}
 use Rattle.refusal.proofs.Rest.{rest-here, rest-end}
 use Rattle.sfc6.specs.Commands.{member}
 use Rattle.replies.specs.Reader.{textIn}
@@ -25,22 +25,33 @@ module _ (l : List ℕ) (i : ℕ) where
   unfolding textIn
   no-zero h = rw (rest-end l i h)
 
-ltb-suc : (a b : ℕ) → ltb (suc a) (suc b) ≡ ltb a b
-ltb-suc a b = go (ltb a b) refl
-  where
-    go : (t : Bool) → ltb a b ≡ t → ltb (suc a) (suc b) ≡ t
-    go true e = let h : a < b = ltb-true a b e in lt-ltb (suc a) (suc b) (omega arith)
-    go false e = let h : b ≤ a = ltb-false a b e in le-ltb (suc a) (suc b) (omega arith)
+-- a search for the smallest byte
+smaller : (b n : ℕ) (l : List ℕ) → foldr min (min b n) l ≡ min b (foldr min n l)
+smaller b n [] = refl
+smaller b n (x ∷ l) = let h = smaller b n l in omega arith
 
--- a text holds a 00 where what stands before the first is not all of it
-pub holds-zero : (t : List ℕ) → ltb (length (textIn t)) (length t) ≡ member 0 t
-unfolding textIn
-holds-zero [] = refl
-holds-zero (b ∷ t) = go (eqb b 0) (holds-zero t)
+pub smallest-later : (l : List ℕ) (i n m : ℕ) {x : ℕ} → i < length l → m ≡ min (getD l i 0) n → foldr min n (drop i l) ≡ x
+    → foldr min m (drop (i + 1) l) ≡ x
+smallest-later l i n m h e f = rw e (smaller (getD l i 0) n (drop (i + 1) l) ∙ (rw (rest-here l i h) at f))
+
+pub smallest-found : (l : List ℕ) (i n : ℕ) {x : ℕ} → length l ≤ i → foldr min n (drop i l) ≡ x → n ≡ x
+smallest-found l i n h f = rw (rest-end l i h) at f
+
+min-zero : (a b : ℕ) → eqb (min a b) 0 ≡ (eqb a 0 || eqb b 0)
+min-zero a b = go (eqb a 0) (eqb b 0) refl refl
   where
-    go : (x : Bool) → ltb (length (textIn t)) (length t) ≡ member 0 t → ltb (length (cond x [] (b ∷ textIn t))) (suc (length t)) ≡ (x || member 0 t)
-    go true h = lt-ltb 0 (suc (length t)) (omega arith)
-    go false h = ltb-suc (length (textIn t)) (length t) ∙ h
+    go : (x y : Bool) → eqb a 0 ≡ x → eqb b 0 ≡ y → eqb (min a b) 0 ≡ (x || y)
+    go true y e f = let h : a ≡ 0 = eqb-true a 0 e in eq-eqb (min a b) 0 (omega arith)
+    go false true e f = let h : b ≡ 0 = eqb-true b 0 f in eq-eqb (min a b) 0 (omega arith)
+    go false false e f =
+        let h = eqb-false a 0 e in
+        let k = eqb-false b 0 f in
+        ne-eqb (min a b) 0 (λ m. omega arith)
+
+-- the smallest byte is 0 exactly if the text holds a 00
+pub smallest-zero : (t : List ℕ) → eqb (foldr min 255 t) 0 ≡ member 0 t
+smallest-zero [] = refl
+smallest-zero (b ∷ t) = min-zero b (foldr min 255 t) ∙ ap (λ (x : Bool). eqb b 0 || x) (smallest-zero t)
 
 -- a text without 00 is read as it was written
 pub text-kept : (t : List ℕ) → member 0 t ≡ false → textIn (t ++ (0 ∷ [])) ≡ t

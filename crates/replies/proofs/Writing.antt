@@ -1,17 +1,18 @@
 -- Writing a reply: each answer of the definition, from the tests that lead to it. Assumes nothing.
 use mathlib.Core.Path.{_≡_, refl, sym, ap, _∙_}
 use mathlib.Core.Bool.{Bool, true, false, cond, not}
-use mathlib.Core.List.{List, [], _∷_}
+use mathlib.Core.List.{List, [], _∷_, _++_}
 use Prim.Native.Nat.{ℕ, _+_, _≤_, _<_}
+use native.Mathlib.Omega.{arith}
 use lib.Dec.{ltb}
-use lib.ListN.{length, take}
+use lib.ListN.{length, length-append}
 use borrow.Author.Tests.{eq-eqb, ne-eqb, lt-ltb, le-ltb}
 use Rattle.refusal.specs.declared.Refusal.{Refusal}
 use Rattle.refusal.specs.Refusals.{Numbered, number, Answered, served, refused, paper, inOrder}
-use Rattle.refusal.specs.Room.{overlay}
 use Rattle.shdlc.specs.declared.Checked.{Checked}
 use Rattle.shdlc.specs.declared.Checked.the-variants as checked
-use Rattle.shdlc.specs.Frame.{writeFrame}
+use Rattle.shdlc.specs.Frame.{frameOf, writeFrame}
+use Rattle.shdlc.specs.Paper.{writtenOf}
 use Rattle.sfc6.specs.declared.Request.{Request}
 use Rattle.sfc6.specs.declared.Row.{Row}
 use Rattle.sfc6.specs.Commands.{row}
@@ -26,25 +27,29 @@ use Rattle.replies.specs.Replies.{suits, contentOf, outOfRange, badFloat
 use Rattle.replies.specs.Writer.{badText, dataOf, stateOf, bodyOf, frameFor, writeChecks, frameToWrite, writeReply}
 use Rattle.replies.specs.Paper.{paperTaken}
 use Rattle.replies.proofs.Taking.{Take}
-use Rattle.replies.proofs.Laid.{Laid, laid-next, laid-taken}
 
--- what is carried, with 5 and 1 left to test
-abbrev pub toLay : ℕ → ℕ → Content → List ℕ → Bool → List ℕ → Answered ℕ × List ℕ
-toLay address command c text bit7 room =
-    lay (inOrder ((ltb 255 (length (dataOf c text)), number 5) ∷ []) (frameFor address command c text bit7)) room
+-- a frame by its data, with 5 and 1 left to test
+abbrev pub toLay : List ℕ → List ℕ → List ℕ → Answered ℕ × List ℕ
+toLay payload frame room = lay (inOrder ((ltb 255 (length payload), number 5) ∷ []) frame) room
 
-module _ (address command : ℕ) (c : Content) (text : List ℕ) (bit7 : Bool) (room : List ℕ) {size : ℕ} (counted : size ≡ length (dataOf c text)) where
-  pub content-long : 255 < size → (refused (number 5), room) ≡ toLay address command c text bit7 room
-  content-long h = rw (← counted, lt-ltb _ _ h)
+module _ (address command state : ℕ) (text last room : List ℕ) (size : ℕ) (counted : size ≡ length text + length last) where
+  pub parts-long : 255 < size → (refused (number 5), room) ≡ toLay (text ++ last) (frameOf (bodyOf address command state (text ++ last))) room
+  parts-long h = let l : 255 < length (text ++ last) = omega (arith, length-append text last) in rw (lt-ltb _ _ l)
 
-  pub content-written : size ≤ 255 → {state : ℕ} → state ≡ stateOf c bit7 → (zeros w v : List ℕ) (place end : ℕ) {o : Answered ℕ × List ℕ}
-      → Laid zeros w place (address ∷ command ∷ state ∷ size ∷ [])
-      → (end ≡ place + length (dataOf c text)) × (v ≡ overlay w place (dataOf c text))
-      → o ≡ writeFrame (take end v) room → o ≡ toLay address command c text bit7 room
-  unfolding frameFor bodyOf
-  content-written h {state} is zeros w v place end l m f =
-      let k = laid-taken zeros v _ end (laid-next zeros w v (address ∷ command ∷ state ∷ size ∷ []) (dataOf c text) place end l m) in
-      rw (← is, ← counted, le-ltb _ _ h) (f ∙ rw k)
+  pub parts-written : size ≤ 255 → (n : ℕ) {a : Answered ℕ} {w : List ℕ} → a ≡ writtenOf n
+      → (writtenOf n, w) ≡ writeFrame ((address ∷ command ∷ state ∷ size ∷ []) ++ (text ++ last)) room
+      → (a, w) ≡ toLay (text ++ last) (frameOf (bodyOf address command state (text ++ last))) room
+  unfolding bodyOf
+  parts-written h n e f =
+      let l : length (text ++ last) ≡ size = length-append text last ∙ sym counted in
+      rw (l, le-ltb _ _ h, e) f
+
+pub content-written : (address command : ℕ) (c : Content) (text : List ℕ) (bit7 : Bool) (room : List ℕ) {state : ℕ} → state ≡ stateOf c bit7
+    → (payload : List ℕ) → payload ≡ dataOf c text → {o : Answered ℕ × List ℕ}
+    → o ≡ toLay payload (frameOf (bodyOf address command state payload)) room
+    → o ≡ toLay (dataOf c text) (frameFor address command c text bit7) room
+unfolding frameFor
+content-written address command c text bit7 room is payload e f = rw (← is, ← e) f
 
 -- what taking apart shows
 taken-suits : (q : Request) (r : Reply) (c : Content) → served c ≡ Take q r → (suits q r ≡ true) × (contentOf r ≡ c)
@@ -105,7 +110,7 @@ module _ (address : ℕ) (q : Request) (r : Reply) (text : List ℕ) (bit7 : Boo
             float-13 h = rw (ne-eqb _ _ one, suit .0, suit .1, ← range, in-range, ← words, good-text, ← float, h) at rest
 
             pub reply-laid : z ≡ false → {at-row : Row} → at-row ≡ row q → {o : Answered ℕ × List ℕ}
-                → o ≡ toLay address (at-row .command) known text bit7 room → o ≡ writeReply address q r text bit7 room
+                → o ≡ toLay (dataOf known text) (frameFor address (at-row .command) known text bit7) room → o ≡ writeReply address q r text bit7 room
             reply-laid h e f =
-                f ∙ ap (λ (k : Row). toLay address (k .command) known text bit7 room) e
+                f ∙ ap (λ (k : Row). toLay (dataOf known text) (frameFor address (k .command) known text bit7) room) e
                 ∙ (rw (ne-eqb _ _ one, suit .0, suit .1, ← range, in-range, ← words, good-text, ← float, h) at rest)

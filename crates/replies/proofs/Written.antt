@@ -32,12 +32,12 @@ use Rattle.replies.specs.declared.Reply.{Reply}
 use Rattle.replies.specs.declared.Reply.the-variants as reply
 use Rattle.replies.specs.declared.Reply.the-variants.{DeviceError}
 use Rattle.replies.specs.declared.Content.{Content}
-use Rattle.replies.specs.declared.Content.the-variants.{Nothing, Float, U16, U32, Validity, Address, Baud, Text, Error}
+use Rattle.replies.specs.declared.Content.the-variants.{Text}
 use Rattle.replies.specs.Replies.{replyTo, kindOf, suits, contentOf, outOfRange, badFloat}
 use Rattle.replies.specs.Writer.{badText, dataOf, codeOf, stateOf, bodyOf, frameFor, writeChecks, frameToWrite, writeReply}
 use Rattle.replies.specs.Reader.{codeIn, bit7In, lengthIn, dataIn, sizeOf, isSize, foreign, Got, gotBy, valueChecks, withBit7, readReply}
 use Rattle.replies.specs.ReadBack.{Fits, comesBack}
-use Rattle.replies.proofs.Carried.{or-false}
+use Rattle.replies.proofs.Carried.{or-false, code-fits}
 use Rattle.replies.proofs.Writing.{frame}
 use Rattle.replies.proofs.Answers.{ofData, reply-15, data-read}
 use Rattle.replies.proofs.Kept.{back}
@@ -119,17 +119,6 @@ code-of-state code false h = omega arith
 bit7-of-state : (code : ℕ) (bit7 : Bool) → code ≤ 127 → leb 0x80 (code + cond bit7 0x80 0) ≡ bit7
 bit7-of-state code true h = le-leb 0x80 (code + 0x80) (omega arith)
 bit7-of-state code false h = lt-leb 0x80 (code + 0) (omega arith)
-
-code-fits : (c : Content) → outOfRange c ≡ false → codeOf c ≤ 127
-code-fits Nothing h = omega arith
-code-fits (Float x) h = omega arith
-code-fits (U16 n) h = omega arith
-code-fits (U32 n) h = omega arith
-code-fits (Validity v) h = omega arith
-code-fits (Address a) h = omega arith
-code-fits (Baud rate) h = omega arith
-code-fits Text h = omega arith
-code-fits (Error code) h = ltb-false _ _ (or-false (eqb code 0) (ltb 127 code) h .1)
 
 -- ---- the body of a reply, as it is read
 not-foreign : (address : ℕ) (r : Row) (body : List ℕ) → eqb address 255 ≡ false → getD body 0 0 ≡ address → getD body 1 0 ≡ r .command

@@ -11,18 +11,19 @@ use shdlc::Kind;
 use shdlc::Written;
 ghost use mathlib.Core.Path.{_≡_};
 ghost use mathlib.Core.Bool.{true, false, cond, not};
-ghost use mathlib.Core.List.{[], _∷_, _++_};
+ghost use mathlib.Core.List.{[], _∷_, _++_, foldr};
+ghost use mathlib.Core.Option.{Option·getD};
 ghost use Prim.Native.Nat.{_+_, _-_, _^_, _≤_, _<_, min};
 ghost use lib.Dec.{ltb};
 ghost use lib.ListN.{length, take, drop};
 ghost use Rattle.refusal.specs.Refusals.{number, inOrder};
-ghost use Rattle.refusal.specs.Room.{overlay};
+ghost use Rattle.shdlc.specs.Frame.{frameOf};
 ghost use Rattle.shdlc.specs.Paper.{paperWritten};
 ghost use Rattle.payload.specs.Field.{big, bigEndian, bytesIn};
 ghost use Rattle.sfc6.specs.Commands.{row};
 ghost use Rattle.sfc6.specs.Requests.{lay};
 ghost use Rattle.replies.specs.Replies.{bitsOf, readingOf, replyTo, suits, contentOf, outOfRange, notFinite, badFloat};
-ghost use Rattle.replies.specs.Writer.{badText, dataOf, stateOf, frameFor, writeReply};
+ghost use Rattle.replies.specs.Writer.{badText, dataOf, stateOf, bodyOf, frameFor, writeReply};
 ghost use Rattle.replies.specs.Reader.{dataIn, sizeOf, isSize, foreign, textIn, value, gotBy, valueChecks, withBit7, readReply};
 ghost use Rattle.replies.specs.Paper.{paperTaken, paperRead};
 
@@ -85,7 +86,7 @@ pub enum ReadReply {
 }
 
 // The bits that a reading is sent by.
-fn bits(x: Reading) -> u32
+pub fn bits_of_reading(x: Reading) -> u32
     ensures { λ r. ⌜ r ≡ bitsOf x ⌝ }
 {
     match x {
@@ -96,8 +97,8 @@ fn bits(x: Reading) -> u32
     }
 }
 
-// The reading of its bits.
-fn reading_of(bits: u32) -> Reading
+// The reading of its bits: one of the three codings, else the float of the bits.
+pub fn reading_of(bits: u32) -> Reading
     ensures { λ r. ⌜ r ≡ readingOf bits ⌝ }
 {
     match bits {
@@ -109,13 +110,13 @@ fn reading_of(bits: u32) -> Reading
 }
 
 // A number cut to the largest that two bytes hold, and one byte. Data of the table's length are never cut.
-fn cut_u16(n: u32) -> u16
+pub fn capped_u16(n: u32) -> u16
     ensures { λ r. ⌜ r ≡ min n 65535 ⌝ }
 {
     if n < 65535 { n as u16 } else { 65535 }
 }
 
-fn cut_u8(n: u32) -> u8
+pub fn capped_u8(n: u32) -> u8
     ensures { λ r. ⌜ r ≡ min n 255 ⌝ }
 {
     if n < 255 { n as u8 } else { 255 }
@@ -130,14 +131,14 @@ fn reply_to(request: Request, n: u32) -> Reply
         Request::MeasuredValue => Reply::MeasuredValue(reading_of(n)),
         Request::GetGain => Reply::Gain(reading_of(n)),
         Request::GetInitStep => Reply::InitStep(reading_of(n)),
-        Request::RawFlow => Reply::RawFlow(cut_u16(n)),
-        Request::RawConductivity => Reply::RawConductivity(cut_u16(n)),
+        Request::RawFlow => Reply::RawFlow(capped_u16(n)),
+        Request::RawConductivity => Reply::RawConductivity(capped_u16(n)),
         Request::Temperature => Reply::Temperature(reading_of(n)),
         Request::NumberOfCalibrations => Reply::NumberOfCalibrations(n),
-        Request::Validity(_) => Reply::Validity(cut_u8(n)),
+        Request::Validity(_) => Reply::Validity(capped_u8(n)),
         Request::FullScale => Reply::FullScale(reading_of(n)),
         Request::GetCalibration => Reply::Calibration(n),
-        Request::GetAddress => Reply::Address(cut_u8(n)),
+        Request::GetAddress => Reply::Address(capped_u8(n)),
         Request::GetBaud => Reply::Baud(n),
         Request::ProductType => Reply::ProductType,
         Request::SetSetpoint(_)
@@ -225,6 +226,21 @@ fn text_len(bytes: &[u8]) -> usize
     i
 }
 
+// The smallest byte, 255 of none. All bytes are looked at: without an early end the compiler takes many at once.
+fn smallest(bytes: &[u8]) -> u8
+    ensures { λ r. ⌜ r ≡ foldr min 255 (now (bytes .entry)) ⌝ }
+{
+    let mut least: u8 = 255;
+    let mut i: usize = 0;
+    while i < bytes.len() {
+        if bytes[i] < least {
+            least = bytes[i];
+        }
+        i += 1;
+    }
+    least
+}
+
 // 12: a text that holds a 00 or is over 254 bytes.
 fn bad_text(content: Content, text: &[u8]) -> bool
     ensures { λ r. ⌜ r ≡ badText content (now (text .entry)) ⌝ }
@@ -235,7 +251,7 @@ fn bad_text(content: Content, text: &[u8]) -> bool
     if text.len() > 254 {
         return true;
     }
-    text_len(text) < text.len()
+    smallest(text) == 0
 }
 
 // A reply of the kind that the request expects is taken apart, and an error answer always. Any other kind is 14.
@@ -358,74 +374,33 @@ fn wide16(n: u16) -> u32
     n as u32
 }
 
-// Writes the bytes from a place on, and answers the place after them.
-fn put_bytes(out: &mut [u8], place: usize, bytes: &[u8]) -> usize
-    requires { ⌜ place + length (now bytes) ≤ length (now out) ⌝ }
-    ensures { λ r. ⌜ (r ≡ place + length (now (bytes .entry))) × (now (out .exit) ≡ overlay (now (out .entry)) place (now (bytes .entry))) ⌝ }
+// Writes a number at the start of the lent room, and answers how many bytes it takes.
+fn put_number(out: &mut [u8], n: u32, width: Width) -> usize
+    requires { ⌜ (n < 256 ^ bytesIn width) × (4 ≤ length (now out)) ⌝ }
+    ensures { λ r. ⌜ (r ≤ 4) × (take r (now (out .exit)) ≡ bigEndian (bytesIn width) n) ⌝ }
 {
-    let mut o = place;
-    let mut i: usize = 0;
-    while i < bytes.len() {
-        out[o] = bytes[i];
-        o += 1;
-        i += 1;
-    }
-    o
-}
-
-// Writes a number, and answers the place after it.
-fn put_number(out: &mut [u8], place: usize, n: u32, width: Width) -> usize
-    requires { ⌜ (n < 256 ^ bytesIn width) × (place + bytesIn width ≤ length (now out)) ⌝ }
-    ensures { λ r. ⌜ (r ≡ place + bytesIn width) × (now (out .exit) ≡ overlay (now (out .entry)) place (bigEndian (bytesIn width) n)) ⌝ }
-{
-    match payload::put(out, place, n, width) {
+    match payload::put(out, 0, n, width) {
         Placed::Next(next) => next,
-        Placed::Refused(_) => place,
+        Placed::Refused(_) => 0,
     }
 }
 
-// Writes a text and the 00 at its end, and answers the place after them.
-fn put_text(out: &mut [u8], place: usize, text: &[u8]) -> usize
-    requires { ⌜ place + (length (now text) + 1) ≤ length (now out) ⌝ }
-    ensures { λ r. ⌜ (r ≡ place + (length (now (text .entry)) + 1)) × (now (out .exit) ≡ overlay (now (out .entry)) place (now (text .entry) ++ (0 ∷ []))) ⌝ }
-{
-    let end = put_bytes(out, place, text);
-    out[end] = 0;
-    end + 1
-}
-
-// How many bytes the data take.
-fn data_size(content: Content, text: &[u8]) -> usize
-    ensures { λ r. ⌜ r ≡ length (dataOf content (now (text .entry))) ⌝ }
+// Writes the data but for the text of a product type, of which only the 00 at its end is written here, and answers how many bytes they
+// take.
+fn put_data(out: &mut [u8], content: Content) -> usize
+    requires { ⌜ 4 ≤ length (now out) ⌝ }
+    ensures { λ r. ⌜ (r ≤ 4) × (take r (now (out .exit)) ≡ dataOf content []) ⌝ }
 {
     match content {
         Content::Nothing => 0,
-        Content::Float(_) => 4,
-        Content::U16(_) => 2,
-        Content::U32(_) => 4,
-        Content::Validity(_) => 1,
-        Content::Address(_) => 1,
-        Content::Baud(_) => 4,
-        Content::Text => text.len() + 1,
+        Content::Float(x) => put_number(out, bits_of_reading(x), Width::Four),
+        Content::U16(n) => put_number(out, wide16(n), Width::Two),
+        Content::U32(n) => put_number(out, n, Width::Four),
+        Content::Validity(v) => put_number(out, wide8(v), Width::One),
+        Content::Address(a) => put_number(out, wide8(a), Width::One),
+        Content::Baud(rate) => put_number(out, rate, Width::Four),
+        Content::Text => put_number(out, 0, Width::One),
         Content::Error(_) => 0,
-    }
-}
-
-// Writes the data, and answers the place after them.
-fn put_data(out: &mut [u8], place: usize, content: Content, text: &[u8]) -> usize
-    requires { ⌜ place + length (dataOf content (now text)) ≤ length (now out) ⌝ }
-    ensures { λ r. ⌜ (r ≡ place + length (dataOf content (now (text .entry)))) × (now (out .exit) ≡ overlay (now (out .entry)) place (dataOf content (now (text .entry)))) ⌝ }
-{
-    match content {
-        Content::Nothing => place,
-        Content::Float(x) => put_number(out, place, bits(x), Width::Four),
-        Content::U16(n) => put_number(out, place, wide16(n), Width::Two),
-        Content::U32(n) => put_number(out, place, n, Width::Four),
-        Content::Validity(v) => put_number(out, place, wide8(v), Width::One),
-        Content::Address(a) => put_number(out, place, wide8(a), Width::One),
-        Content::Baud(rate) => put_number(out, place, rate, Width::Four),
-        Content::Text => put_text(out, place, text),
-        Content::Error(_) => place,
     }
 }
 
@@ -447,6 +422,25 @@ fn state_of(content: Content, bit7: bool) -> u8
     code + high(bit7)
 }
 
+// Writes the frame of a reply whose data are a text, which may be empty, and what follows it: 5 and 1.
+fn write_parts(
+    address: u8,
+    command: u8,
+    state: u8,
+    text: &[u8],
+    last: &[u8],
+    out: &mut [u8],
+) -> Written
+    ensures { λ r. ⌜ (paperWritten r, now (out .exit)) ≡ lay (inOrder ((ltb 255 (length (now (text .entry) ++ now (last .entry))), number 5) ∷ []) (frameOf (bodyOf address command state (now (text .entry) ++ now (last .entry))))) (now (out .entry)) ⌝ }
+{
+    let size = text.len() + last.len();
+    if 255 < size {
+        return Written::Refused(Refusal::BodyTooLong);
+    }
+    let head = [address, command, state, size as u8];
+    shdlc::written_of(shdlc::lay_parts(&head, text, last, out))
+}
+
 // Writes the frame of what a reply carries: 5 and 1.
 fn write_content(
     address: u8,
@@ -459,15 +453,13 @@ fn write_content(
     requires { ⌜ (outOfRange content ≡ false) × (badText content (now text) ≡ false) ⌝ }
     ensures { λ r. ⌜ (paperWritten r, now (out .exit)) ≡ lay (inOrder ((ltb 255 (length (dataOf content (now (text .entry)))), number 5) ∷ []) (frameFor address command content (now (text .entry)) bit7)) (now (out .entry)) ⌝ }
 {
-    let size = data_size(content, text);
-    if 255 < size {
-        return Written::Refused(Refusal::BodyTooLong);
+    let state = state_of(content, bit7);
+    let mut rest = [0u8; 4];
+    let end = put_data(&mut rest, content);
+    if let Content::Text = content {
+        return write_parts(address, command, state, text, &rest[..end], out);
     }
-    let head = [address, command, state_of(content, bit7), size as u8];
-    let mut body = [0u8; 259];
-    let place = put_bytes(&mut body, 0, &head);
-    let end = put_data(&mut body, place, content, text);
-    shdlc::write_frame(&body[..end], out)
+    write_parts(address, command, state, &text[..0], &rest[..end], out)
 }
 
 // Writes the frame of the reply to a request at the start of the lent room. The text is that of a product type; beside any other
@@ -567,24 +559,34 @@ fn read_number(request: Request, n: u32, bit7: bool) -> ReadReply
     ReadReply::Value(reply, bit7)
 }
 
-// What the data of a reply stand for, once their length is settled.
+// The number that the data stand for; 0 where they are none or a text.
+fn number_of(answer: Answer, body: &[u8]) -> u32
+    requires { ⌜ 4 + Option·getD (sizeOf answer) 0 ≤ length (now body) ⌝ }
+    ensures { λ r. ⌜ r ≡ big (take (Option·getD (sizeOf answer) 0) (drop 4 (now (body .entry)))) ⌝ }
+{
+    match answer {
+        Answer::Nothing => 0,
+        Answer::Float => number_in(body, Width::Four),
+        Answer::U16 => number_in(body, Width::Two),
+        Answer::U32 => number_in(body, Width::Four),
+        Answer::Validity => number_in(body, Width::One),
+        Answer::Address => number_in(body, Width::One),
+        Answer::Baud => number_in(body, Width::Four),
+        Answer::Text => 0,
+    }
+}
+
+// What the data of a reply stand for, once their length is settled. `read_number` is called at one place, so that the compiler inlines
+// it.
 fn read_data(request: Request, answer: Answer, body: &[u8], bit7: bool) -> ReadReply
     requires { ⌜ (answer ≡ row request .answer) × (isSize (sizeOf answer) (length (now body) - 5) ≡ true) × (5 ≤ length (now body)) ⌝ }
     ensures { λ r. ⌜ paperRead r ≡ withBit7 (inOrder (valueChecks (replyTo request (big (dataIn (now (body .entry)))))) (gotBy (sizeOf answer) request (dataIn (now (body .entry))))) bit7 ⌝ }
 {
-    match answer {
-        Answer::Nothing => read_number(request, 0, bit7),
-        Answer::Float => read_number(request, number_in(body, Width::Four), bit7),
-        Answer::U16 => read_number(request, number_in(body, Width::Two), bit7),
-        Answer::U32 => read_number(request, number_in(body, Width::Four), bit7),
-        Answer::Validity => read_number(request, number_in(body, Width::One), bit7),
-        Answer::Address => read_number(request, number_in(body, Width::One), bit7),
-        Answer::Baud => read_number(request, number_in(body, Width::Four), bit7),
-        Answer::Text => {
-            let end = body.len() - 1;
-            ReadReply::Text(4, text_len(&body[4..end]), bit7)
-        }
+    if let Answer::Text = answer {
+        let end = body.len() - 1;
+        return ReadReply::Text(4, text_len(&body[4..end]), bit7);
     }
+    read_number(request, number_of(answer, body), bit7)
 }
 
 // Reads the unstuffed body of the reply to a request, checksum included.

@@ -1,7 +1,9 @@
 -- `replies::state_of` meets its contract. Assumes nothing.
 use borrow.Author.Needs.{needs}
 use native.Mathlib.Omega.{arith}
-use Rattle.replies.proofs.Carried.{no-error, plain-state, error-state, code-small}
+use mathlib.Core.Path.{ap}
+use Rattle.replies.specs.Writer.{codeOf}
+use Rattle.replies.proofs.Carried.{no-error, plain-state, error-state, code-fits}
 use Rattle.replies.proofs.state_of.Statement.{statement}
 use Rattle.replies.proofs.state_of.Tie as tie
 
@@ -14,5 +16,5 @@ state-of-spec =
     (λ c. let a = c .before .before .args in plain-state (a .content) (a .bit7) (c .high .ensures .0) (no-error (a .content) (c .before .match .keys2)))
     (λ c κs. search needs)
     (λ c. let b = c .before .before in
-    omega (arith, code-small (b .before .before .args .content) (b .content .given .0 .0) (b .content .given .1) (b .before .before .pre)))
+    omega (arith, code-fits (b .before .before .args .content) (b .before .before .pre), ap codeOf (b .content .given .1)))
     (λ c. let b = c .before .before in error-state _ (b .before .before .args .bit7) (c .high2 .ensures .0) _ (b .content .given .1)))

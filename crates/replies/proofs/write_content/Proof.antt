@@ -1,33 +1,54 @@
--- `replies::write_content` meets its contract: the body is laid down part by part. Assumes nothing.
+-- `replies::write_content` meets its contract: a product type has its text before the other data. Assumes nothing.
 use borrow.Author.Needs.{needs}
-use mathlib.Core.Path.{sym}
+use mathlib.Core.Path.{sym, _∙_}
 use lib.Seq.{length-take-le}
-use Rattle.replies.proofs.Writing.{content-long, content-written}
+use Rattle.replies.proofs.Carried.{text-data, no-text}
+use Rattle.replies.proofs.Writing.{content-written}
 use Rattle.replies.proofs.write_content.Statement.{statement}
 use Rattle.replies.proofs.write_content.Tie as tie
 
-prefix : tie.Need-array-share-prefix-body
+prefix : tie.Need-array-share-prefix-rest
 prefix c = search needs
+
+prefix-2 : tie.Need-array-share-prefix-rest-2
+prefix-2 c = search needs
+
+returns : tie.Need-returns
+returns c =
+    let p = c .before .before in
+    let t = p .before .before .before in
+    let d = t .before .before .before in
+    let s = d .before .before in
+    let a = s .before .before .before .args in
+    content-written (a .address) (a .command) (a .content) (a .text .now) (a .bit7) _ (s .state-of .ensures) _
+    (text-data (a .content) (a .text .now) (t .enum-told .given .1) (d .put-data .ensures .1)) (p .write-parts .ensures)
+
+returns-2 : tie.Need-returns-2
+returns-2 c =
+    let p = c .before .before in
+    let m = p .before .before .before .before in
+    let d = m .before .before in
+    let s = d .before .before in
+    let a = s .before .before .before .args in
+    content-written (a .address) (a .command) (a .content) (a .text .now) (a .bit7) _ (s .state-of .ensures) _
+    (d .put-data .ensures .1 ∙ no-text (a .content) (a .text .now) (m .match .keys2) .1) (p .write-parts2 .ensures)
 
 pub write-content-spec : {M : Type 1} → statement M
 write-content-spec =
     tie.close
     (tie.spec
     (λ c κs. search needs)
-    (λ c. let a = c .before .before .before .before .args in content-long (a .address) (a .command) (a .content) (a .text .now) (a .bit7) _ (c .before .data-size .ensures) (c .if1 .taken))
-    (λ c κs. search needs)
-    (λ c. search needs)
-    (λ c. search needs)
     (λ c. search needs)
     (λ c κs. search needs)
     (λ c. search needs)
-    (λ c κs. search needs)
     prefix
     (λ c. sym (length-take-le _ _ (prefix (c .before))))
     (λ c κs. search needs)
     (λ c. search needs)
-    (λ c. let p = c .before .before .before .before .before .before in
-    let h = p .before .before .before in
-    let e = h .before .before .before .before in
-    let a = e .before .before .before .before .args in
-    content-written (a .address) (a .command) (a .content) (a .text .now) (a .bit7) _ (e .before .data-size .ensures) (e .if1 .left) (h .before .before .before .state-of .ensures) _ _ _ _ _ (h .put-bytes .ensures) (p .put-data .ensures) (c .before .before .write-frame .ensures)))
+    returns
+    (λ c. search needs)
+    prefix-2
+    (λ c. sym (length-take-le _ _ (prefix-2 (c .before))))
+    (λ c κs. search needs)
+    (λ c. search needs)
+    returns-2)

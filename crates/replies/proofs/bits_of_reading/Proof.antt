@@ -1,12 +1,12 @@
--- `replies::bits` meets its contract. Assumes nothing.
+-- `replies::bits_of_reading` meets its contract. Assumes nothing.
 use borrow.Author.Needs.{needs}
 use mathlib.Core.Path.{sym, ap, _∙_}
 use Rattle.replies.specs.Replies.{bitsOf}
-use Rattle.replies.proofs.bits.Statement.{statement}
-use Rattle.replies.proofs.bits.Tie as tie
+use Rattle.replies.proofs.bits_of_reading.Statement.{statement}
+use Rattle.replies.proofs.bits_of_reading.Tie as tie
 
-pub bits-spec : {M : Type 1} → statement M
-bits-spec =
+pub bits-of-reading-spec : {M : Type 1} → statement M
+bits-of-reading-spec =
     tie.close
     (tie.spec
     (λ c. search needs)
