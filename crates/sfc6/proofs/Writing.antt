@@ -1,10 +1,10 @@
 -- Writing a request: each answer of the definition, from the tests that lead to it. Assumes nothing.
 use mathlib.Core.Path.{_≡_, refl, sym, ap, _∙_}
-use mathlib.Core.Bool.{Bool, cond}
+use mathlib.Core.Bool.{Bool, true, false, cond}
 use mathlib.Core.List.{List, [], _∷_, _++_, append-nil}
-use Prim.Native.Nat.{ℕ, _+_, _-_, _≤_, _<_}
+use Prim.Native.Nat.{ℕ, _-_, _≤_, _<_}
 use native.Mathlib.Omega.{arith}
-use borrow.Author.Tests.{lt-ltb, le-ltb}
+use borrow.Author.Tests.{lt-ltb, le-ltb, ltb-false}
 use lib.Dec.{ltb}
 use lib.ListN.{length, take, drop, length-drop, drop-of-length-le, take-append-drop}
 use lib.Seq.{take-all, take-length, drop-length}
@@ -19,10 +19,10 @@ use Rattle.shdlc.specs.Paper.{writtenOf}
 use Rattle.sfc6.specs.declared.Request.{Request}
 use Rattle.sfc6.specs.declared.Row.{Row}
 use Rattle.sfc6.specs.Commands.{row}
-use Rattle.sfc6.specs.Requests.{requestChecks, checkRequest, dataOf, bodyOf, frameToWrite, lay, writeRequest}
+use Rattle.sfc6.specs.Requests.{requestChecks, checkRequest, dataOf, bodyOf, frameToWrite, writeRequest}
 use Rattle.sfc6.specs.Rounds.{appendRequest}
 use Rattle.sfc6.specs.Paper.{paperPassed}
-use Rattle.sfc6.proofs.Order.{first-refuses, then-more}
+use Rattle.sfc6.proofs.Order.{never, first-refuses, then-more}
 
 -- the test of the data's length
 abbrev pub five : Row → List (Bool × Numbered)
@@ -72,6 +72,20 @@ module _ (address : ℕ) (request : Request) (room frame : List ℕ) (c : Checke
       → (o, w) ≡ writeRequest address request room
   unfolding writeRequest
   write-laid good n e f = rw (← is, good, e) f
+
+-- bytes that were laid stand at the room's start, and fit
+pub emit-laid : (bytes room : List ℕ) (n : ℕ) → emit bytes room .0 ≡ served n
+    → (n ≡ length bytes) × (emit bytes room .1 ≡ overlay room 0 bytes) × (length bytes ≤ length room)
+unfolding emit
+emit-laid bytes room n = go (ltb (length room) (length bytes)) refl
+  where
+    go : (t : Bool) → ltb (length room) (length bytes) ≡ t
+        → cond {A = Answered ℕ × List ℕ} t (refused (number 1), room) (served (length bytes), overlay room 0 bytes) .0 ≡ served n
+        → (n ≡ length bytes)
+        × (cond {A = Answered ℕ × List ℕ} t (refused (number 1), room) (served (length bytes), overlay room 0 bytes) .1 ≡ overlay room 0 bytes)
+        × (length bytes ≤ length room)
+    go true e h = never (sym h)
+    go false e h = (cc, refl, ltb-false _ _ e)
 
 -- a frame into the room left: where it is refused, all is as it was
 pub append-refused : (buffer : List ℕ) (start address : ℕ) (request : Request) {n : Numbered}
