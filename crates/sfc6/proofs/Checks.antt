@@ -5,29 +5,30 @@ use Prim.Native.Nat.{ℕ}
 use mathlib.Core.List.{[], _∷_}
 use Rattle.refusal.specs.Refusals.{number, served, refused, inOrder}
 use Rattle.sfc6.specs.declared.Request.{Request}
-use Rattle.sfc6.specs.declared.Row.{Row}
+use Rattle.sfc6.specs.declared.Value.{Value}
 use Rattle.sfc6.specs.Commands.{row, outOfRange, badFloat, addressToAll}
 use Rattle.sfc6.specs.Requests.{checkRequest}
 use Rattle.sfc6.proofs.Order.{never}
 
-module _ (address : ℕ) (request : Request) (r : Row) (is : r ≡ row request) {x : Bool} (range : x ≡ outOfRange (r .value)) where
-  pub refused-12 : x ≡ true → refused (number 12) ≡ checkRequest address request
+-- of any request that carries the value
+module _ (address : ℕ) (value : Value) {x : Bool} (range : x ≡ outOfRange value) where
+  pub refused-12 : x ≡ true → (request : Request) → row request .value ≡ value → refused (number 12) ≡ checkRequest address request
   unfolding checkRequest
-  refused-12 h = rw (← is, ← range, h)
+  refused-12 h request is = rw (is, ← range, h)
 
-  module _ (in-range : x ≡ false) {y : Bool} (float : y ≡ badFloat (r .value)) where
-    pub refused-13 : y ≡ true → refused (number 13) ≡ checkRequest address request
+  module _ (in-range : x ≡ false) {y : Bool} (float : y ≡ badFloat value) where
+    pub refused-13 : y ≡ true → (request : Request) → row request .value ≡ value → refused (number 13) ≡ checkRequest address request
     unfolding checkRequest
-    refused-13 h = rw (← is, ← range, in-range, ← float, h)
+    refused-13 h request is = rw (is, ← range, in-range, ← float, h)
 
-    module _ (good-float : y ≡ false) {z : Bool} (all : z ≡ addressToAll address (r .value)) where
-      pub refused-10 : z ≡ true → refused (number 10) ≡ checkRequest address request
+    module _ (good-float : y ≡ false) {z : Bool} (all : z ≡ addressToAll address value) where
+      pub refused-10 : z ≡ true → (request : Request) → row request .value ≡ value → refused (number 10) ≡ checkRequest address request
       unfolding checkRequest
-      refused-10 h = rw (← is, ← range, in-range, ← float, good-float, ← all, h)
+      refused-10 h request is = rw (is, ← range, in-range, ← float, good-float, ← all, h)
 
-      pub passed : z ≡ false → served (address, request) ≡ checkRequest address request
+      pub passed : z ≡ false → (request : Request) → row request .value ≡ value → served (address, request) ≡ checkRequest address request
       unfolding checkRequest
-      passed h = rw (← is, ← range, in-range, ← float, good-float, ← all, h)
+      passed h request is = rw (is, ← range, in-range, ← float, good-float, ← all, h)
 
 -- a request that passes carries no bad float
 pub passed-float : (address : ℕ) (request : Request) {a : ℕ × Request} → checkRequest address request ≡ served a → badFloat (row request .value) ≡ false

@@ -1,7 +1,6 @@
 -- The answers of the code can be told from their words in document 01. Assumes nothing.
 use Prim.Native.Nat.{ℕ}
 use mathlib.Core.Path.{_≡_, ap}
-use Rattle.refusal.specs.Refusals.{Answered}
 use Rattle.refusal.proofs.OneToOne.{paper-one-to-one}
 use Rattle.shdlc.specs.declared.Checked.{Checked}
 use Rattle.shdlc.specs.declared.Checked.the-variants as checked

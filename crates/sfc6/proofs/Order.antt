@@ -3,14 +3,13 @@ use mathlib.Core.Path.{_≡_, refl, sym, ap, _∙_}
 use mathlib.Core.Logic.{_⊎_, inl, inr, ⊎-elim}
 use mathlib.Core.Bool.{Bool, true, false, cond}
 use mathlib.Core.List.{List, [], _∷_, _++_}
-use Prim.Native.Nat.{ℕ}
-use native.Mathlib.Omega.{arith}
 use Rattle.refusal.specs.Refusals.{Numbered, Answered, served, refused, inOrder}
+use Rattle.refusal.proofs.Order.{refused-not-served}
 use Rattle.sfc6.specs.Reading.{andThen}
 
 -- an answer does not serve and refuse
 pub never : {A B : Type 0} {a : A} {n : Numbered} → served a ≡ refused n → B
-never h = absurd (let z : _≡_ {A = ℕ} 0 1 = cc in omega arith)
+never h = absurd (refused-not-served (sym h))
 
 module _ {A B : Type 0} (a : A) (b : B) (more : List (Bool × Numbered)) where
   -- what refuses first still does

@@ -1,9 +1,9 @@
 -- Reading a request: each answer of the definitions, from the tests that lead to it. Assumes nothing.
 use mathlib.Core.Path.{_≡_, refl, sym, ap, subst, _∙_}
-use mathlib.Core.Bool.{Bool, true, false, cond, not, _&&_}
+use mathlib.Core.Bool.{Bool, true, false, cond, _&&_, true≢false}
 use mathlib.Core.List.{List, [], _∷_}
-use mathlib.Core.Option.{Option, none, some}
-use Prim.Native.Nat.{ℕ, zero, suc, _+_, _-_, _≤_, _<_}
+use mathlib.Core.Option.{none, some}
+use Prim.Native.Nat.{ℕ, _+_, _-_, _≤_, _<_}
 use native.Mathlib.Omega.{arith}
 use native.Mathlib.Numerals.{add-one}
 use borrow.Author.Tests.{eq-eqb, ne-eqb, eqb-true}
@@ -136,32 +136,50 @@ first-passes test (q ∷ requests) request h = go (test (row (q 0))) refl (first
 
 pub both : (a b : Bool) → (a && b) ≡ true → (a ≡ true) × (b ≡ true)
 both true b h = (refl, h)
-both false b h = absurd (let z : _≡_ {A = ℕ} 0 1 = cc in omega arith)
+both false b h = absurd (true≢false (sym h))
 
 pub fits-length : (command : ℕ) (payload : List ℕ) (r : Row) → fitting command payload r ≡ true → length payload ≡ length (dataOf r)
 unfolding fitting
 fits-length command payload r h = eqb-true _ _ (both (named command payload r) _ h .1)
 
 -- the data of a command: each answer of `typed`
-module _ (command : ℕ) (payload : List ℕ) {f : Found} (by-name : paperFound f ≡ first (named command payload) table) where
-  pub typed-unknown : f ≡ Missing → refused (number 11) ≡ typed command payload
-  unfolding typed
-  typed-unknown e = rw (← by-name, e)
+module _ (command : ℕ) (payload : List ℕ) where
+  -- a row that fits is named, so that where one fits a named one is found
+  first-named : (requests : List (ℕ → Request)) {request : ℕ → Request} → first (fitting command payload) requests ≡ some request
+      → (named-one : ℕ → Request) × (first (named command payload) requests ≡ some named-one)
+  unfolding first fitting
+  first-named [] h = absurd (let z : _≡_ {A = ℕ} 0 1 = cc in omega arith)
+  first-named (q ∷ requests) {request} h = go (named command payload (row (q 0))) (first-named requests) h
+    where
+      go : (t : Bool)
+          → (first (fitting command payload) requests ≡ some request → (named-one : ℕ → Request) × (first (named command payload) requests ≡ some named-one))
+          → cond (t && eqb (length payload) (length (dataOf (row (q 0))))) (some q) (first (fitting command payload) requests) ≡ some request
+          → (named-one : ℕ → Request) × (cond t (some q) (first (named command payload) requests) ≡ some named-one)
+      go true on h = (q, refl)
+      go false on h = on h
 
-  module _ {i : ℕ} (e : f ≡ At i) {g : Found} (by-length : paperFound g ≡ first (fitting command payload) table) where
-    pub typed-unfit : g ≡ Missing → refused (number 12) ≡ typed command payload
+  pub typed-unknown : {f : Found} → paperFound f ≡ first (named command payload) table → f ≡ Missing → refused (number 11) ≡ typed command payload
+  unfolding typed
+  typed-unknown by-name e = rw (← by-name, e)
+
+  module _ {g : Found} (by-length : paperFound g ≡ first (fitting command payload) table) where
+    pub typed-unfit : g ≡ Missing → {f : Found} → paperFound f ≡ first (named command payload) table → {i : ℕ} → f ≡ At i
+        → refused (number 12) ≡ typed command payload
     unfolding typed
-    typed-unfit h = rw (← by-name, e, ← by-length, h)
+    typed-unfit h by-name e = rw (← by-name, e, ← by-length, h)
 
     module _ {place : ℕ} (h : g ≡ At place) {q : Request} (request : q ≡ requestAt place 0) {r : Row} (at-row : r ≡ row q) where
+      fits : first (fitting command payload) table ≡ some (requestAt place)
+      fits = sym by-length ∙ ap paperFound h
+
       pub typed-whole : length payload ≡ length (dataOf r)
       typed-whole =
           rw (at-row, request)
-          (fits-length command payload (row (requestAt place 0)) (first-passes (fitting command payload) table (requestAt place) (sym by-length ∙ ap paperFound h)))
+          (fits-length command payload (row (requestAt place 0)) (first-passes (fitting command payload) table (requestAt place) fits))
 
       pub typed-known : {n : ℕ} → n ≡ carried r payload → {answer : Request} → answer ≡ requestAt place n → served answer ≡ typed command payload
       unfolding typed
-      typed-known k a = rw (← by-name, e, ← by-length, h, ← request, ← at-row, ← k, a)
+      typed-known k a = rw (first-named table fits .1, fits, ← request, ← at-row, ← k, a)
 
 -- a body: each answer of `readRequest`
 module _ (body : List ℕ) {c : Checked} (is : paperChecked body c ≡ checkBody kind.Request body) where

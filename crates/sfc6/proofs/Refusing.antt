@@ -1,7 +1,7 @@
 -- When the writer of a request refuses, and with which number. Assumes nothing.
 use mathlib.Core.Path.{_≡_, refl, sym, ap, _∙_}
 use mathlib.Core.Logic.{_↔_}
-use mathlib.Core.Bool.{Bool, true, false, cond}
+use mathlib.Core.Bool.{Bool, true, false, cond, true≢false}
 use mathlib.Core.List.{List, [], _∷_}
 use Prim.Native.Nat.{ℕ, _≤_, _<_}
 use native.Mathlib.Omega.{arith}
@@ -32,7 +32,7 @@ module _ {A : Type 0} where
   apart m n f g h e = absurd (h (sym f ∙ ap code e ∙ g))
 
 wrong : {A : Type 0} → true ≡ false → A
-wrong h = absurd (let z : _≡_ {A = ℕ} 0 1 = cc in omega arith)
+wrong h = absurd (true≢false h)
 
 module _ (n : ℕ) where
   as-12 : (x y z t : Bool) → (Steps x y z t n ≡ refused (number 12)) ↔ (x ≡ true)

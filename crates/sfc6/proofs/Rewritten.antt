@@ -1,9 +1,9 @@
 -- A body that is read and written again comes to the same bytes. Assumes nothing.
 use mathlib.Core.Path.{_≡_, refl, sym, ap, subst, _∙_}
-use mathlib.Core.Bool.{Bool, true, false, cond, not, _&&_}
+use mathlib.Core.Bool.{Bool, true, false, cond, not, _&&_, true≢false}
 use mathlib.Core.List.{List, [], _∷_, _++_}
 use mathlib.Core.Option.{Option, none, some}
-use Prim.Native.Nat.{ℕ, zero, suc, _+_, _-_, _/_, _%_, _^_, min, _≤_, _<_}
+use Prim.Native.Nat.{ℕ, zero, suc, _+_, _-_, _^_, min, _≤_, _<_}
 use native.Mathlib.Omega.{arith}
 use lib.Dec.{T, eqb}
 use lib.ListN.{length, take, drop, getD, length-append, length-take, length-drop}
@@ -11,7 +11,7 @@ use lib.Seq.{getD-drop}
 use lib.Ieee.{Float, nan, inf, fin, binary32, isNan, toBits, ofBits}
 use lib.Ieee.Bits.{toBits-ofBits}
 use borrow.Author.Tests.{eqb-true}
-use Rattle.refusal.specs.Refusals.{Answered, number, served, refused}
+use Rattle.refusal.specs.Refusals.{Answered, number, served}
 use Rattle.refusal.specs.Room.{emit}
 use Rattle.shdlc.specs.declared.Kind.the-variants as kind
 use Rattle.shdlc.specs.Stuffing.{stuff}
@@ -35,7 +35,7 @@ use Rattle.sfc6.proofs.Written.{to-write}
 -- a float's bits that are finite come back
 not-nan : (x : Float) → not (finite (toBits binary32 x)) ≡ false → T (not (isNan x))
 unfolding isNan toBits
-not-nan nan h = absurd (let z : _≡_ {A = ℕ} 0 1 = cc in omega arith)
+not-nan nan h = absurd (true≢false h)
 not-nan (inf s) h = tt
 not-nan (fin s m e) h = tt
 
@@ -110,7 +110,7 @@ typed-found command payload request = go (first (named command payload) table) (
 starts-split : (s : Subcommand) (payload : List ℕ) → startsWith s payload ≡ true → subBytes s ++ drop (length (subBytes s)) payload ≡ payload
 unfolding startsWith
 starts-split sub.Missing payload h = refl
-starts-split (sub.Byte s) [] h = absurd (let z : _≡_ {A = ℕ} 0 1 = cc in omega arith)
+starts-split (sub.Byte s) [] h = absurd (true≢false (sym h))
 starts-split (sub.Byte s) (b ∷ payload) h = ap (λ (x : ℕ). x ∷ payload) (sym (eqb-true b s h))
 
 bytes-drop : (n : ℕ) (l : List ℕ) → Bytes l → Bytes (drop n l)

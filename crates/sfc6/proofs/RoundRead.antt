@@ -1,13 +1,10 @@
 -- A polling round: the frames that it counts stand, and are as many items of the stream. Assumes nothing.
 use mathlib.Core.Path.{_≡_, refl, sym, ap, subst, _∙_}
-use mathlib.Core.Logic.{⊎-elim}
 use mathlib.Core.Bool.{Bool, true, false, cond}
 use mathlib.Core.List.{List, [], _∷_, _++_, map, map-append}
-use Prim.Native.Nat.{ℕ, zero, suc, _+_, _-_, _≤_, _<_}
+use Prim.Native.Nat.{ℕ, suc, _+_, _≤_}
 use native.Mathlib.Nat.{add-zero, zero-add}
-use native.Mathlib.Numerals.{add-one}
 use native.Mathlib.Omega.{arith}
-use borrow.Author.Tests.{ltb-false}
 use lib.Dec.{ltb}
 use lib.ListN.{length, take, drop, length-append, length-drop, take-append-drop}
 use lib.Seq.{drop-drop}
@@ -17,15 +14,16 @@ use Rattle.refusal.proofs.Room.{overlay-nothing, overlay-more}
 use Rattle.shdlc.specs.declared.Kind.the-variants as kind
 use Rattle.shdlc.specs.Stuffing.{stuff}
 use Rattle.shdlc.specs.Frame.{withChecksum, frameOf}
-use Rattle.shdlc.specs.Stream.{Event, byte, Item, Place, outside, inside, nextByte, next, gain, itemsFrom, items}
+use Rattle.shdlc.specs.Stream.{byte, Item, Place, outside, inside, nextByte, next, gain, itemsFrom, items}
 use Rattle.shdlc.proofs.Frame.{frame-length}
 use Rattle.shdlc.proofs.Stream.{placeFrom, place-append, items-append, frame-items}
 use Rattle.sfc6.specs.declared.Request.{Request}
 use Rattle.sfc6.specs.Commands.{row}
-use Rattle.sfc6.specs.Requests.{checkRequest, bodyOf, frameToWrite, lay, writeRequest}
+use Rattle.sfc6.specs.Requests.{bodyOf, frameToWrite, lay, writeRequest}
 use Rattle.sfc6.specs.Rounds.{appendRequest, Laid, roundOn, roundFrom, pollRound}
 use Rattle.sfc6.specs.ReadBack.{framesOf, Stands}
 use Rattle.sfc6.proofs.Order.{never}
+use Rattle.sfc6.proofs.Writing.{emit-laid}
 use Rattle.sfc6.proofs.Written.{good, to-write, written}
 
 into : (buffer : List ℕ) (start : ℕ) (bytes : List ℕ) → take start buffer ++ overlay (drop start buffer) 0 bytes ≡ overlay buffer start bytes
@@ -55,19 +53,6 @@ module _ (buffer : List ℕ) (start node : ℕ) (request : Request) where
   unfolding appendRequest writeRequest
   append-kept n h = ap (λ (w : List ℕ). take start buffer ++ w) (lay-kept (frameToWrite node request) (drop start buffer) h) ∙ take-append-drop start buffer
 
-  emit-laid : (bytes room : List ℕ) (n : ℕ) → emit bytes room .0 ≡ served n
-      → (n ≡ length bytes) × (emit bytes room .1 ≡ overlay room 0 bytes) × (length bytes ≤ length room)
-  unfolding emit
-  emit-laid bytes room n = go (ltb (length room) (length bytes)) refl
-    where
-      go : (t : Bool) → ltb (length room) (length bytes) ≡ t
-          → cond {A = Answered ℕ × List ℕ} t (refused (number 1), room) (served (length bytes), overlay room 0 bytes) .0 ≡ served n
-          → (n ≡ length bytes)
-          × (cond {A = Answered ℕ × List ℕ} t (refused (number 1), room) (served (length bytes), overlay room 0 bytes) .1 ≡ overlay room 0 bytes)
-          × (length bytes ≤ length room)
-      go true e h = never (sym h)
-      go false e h = (cc, refl, ltb-false _ _ e)
-
   -- a call that serves lays its frame at the start, and there is room for it
   pub append-laid : (n : ℕ) → appendRequest buffer start node request .0 ≡ served n
       → (n ≡ length frame) × (appendRequest buffer start node request .1 ≡ overlay buffer start frame) × (start ≤ length buffer)
@@ -79,12 +64,9 @@ module _ (buffer : List ℕ) (start node : ℕ) (request : Request) where
       let e = emit-laid frame room n (sym (ap (λ (a : Answered (List ℕ)). lay a room .0) t) ∙ h) in
       let l = length-drop start buffer in (
         e .0,
-        ap (λ (a : Answered (List ℕ)). take start buffer ++ lay a room .1) t ∙ ap (λ (x : List ℕ). take start buffer ++ x) (e .1) ∙ over,
+        ap (λ (a : Answered (List ℕ)). take start buffer ++ lay a room .1) t ∙ ap (λ (x : List ℕ). take start buffer ++ x) (e .1) ∙ into buffer start frame,
         omega (arith, frame-length (bodyOf node (row request)), e .2),
       )
-    where
-      over : take start buffer ++ overlay (drop start buffer) 0 frame ≡ overlay buffer start frame
-      over = into buffer start frame
 
 -- the frames of a round, one call after the other
 module _ (request : Request) where

@@ -1,25 +1,24 @@
 -- A polling round, call by call. Assumes nothing.
-use mathlib.Core.Path.{_≡_, refl, sym, ap, _∙_}
-use mathlib.Core.List.{List, [], _∷_}
+use mathlib.Core.Path.{_≡_, sym, ap, _∙_}
+use mathlib.Core.List.{List}
 use Prim.Native.Nat.{ℕ, _+_, _-_, _≤_, _<_}
 use native.Mathlib.Omega.{arith}
 use lib.ListN.{length, getD, drop, length-drop}
 use Rattle.refusal.specs.declared.Refusal.{Refusal}
 use Rattle.refusal.specs.Refusals.{Answered, served, refused, paper}
-use Rattle.refusal.specs.Room.{emit}
-use Rattle.refusal.proofs.Room.{served-within}
 use Rattle.shdlc.specs.declared.Written.{Written}
 use Rattle.shdlc.specs.declared.Written.the-variants.{Done, Refused}
 use Rattle.shdlc.specs.Paper.{paperWritten}
 use Rattle.refusal.proofs.Rest.{rest-here, rest-end}
 use Rattle.sfc6.specs.declared.Request.{Request}
 use Rattle.sfc6.specs.Requests.{frameToWrite, lay, writeRequest}
-use Rattle.sfc6.specs.Rounds.{appendRequest, Laid, roundOn, roundFrom}
+use Rattle.sfc6.specs.Rounds.{appendRequest, roundOn, roundFrom}
 use Rattle.sfc6.proofs.Order.{never}
+use Rattle.sfc6.proofs.Writing.{emit-laid}
 
 -- what was written fitted
 lay-fits : (answer : Answered (List ℕ)) (room : List ℕ) (n : ℕ) → lay answer room .0 ≡ served n → n ≤ length room
-lay-fits (served frame) room n h = served-within frame room (emit frame room .1) n (ap (λ (a : Answered ℕ). (a, emit frame room .1)) (sym h))
+lay-fits (served frame) room n h = let e = emit-laid frame room n h in omega (arith, e .0, e .2)
 lay-fits (refused m) room n h = never (sym h)
 
 module _ (request : Request) (buffer : List ℕ) (end node : ℕ) (r : Written) (w : List ℕ)

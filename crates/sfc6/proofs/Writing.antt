@@ -1,59 +1,98 @@
 -- Writing a request: each answer of the definition, from the tests that lead to it. Assumes nothing.
 use mathlib.Core.Path.{_≡_, refl, sym, ap, _∙_}
-use mathlib.Core.Bool.{Bool, cond}
+use mathlib.Core.Bool.{Bool, true, false, cond}
 use mathlib.Core.List.{List, [], _∷_, _++_, append-nil}
-use Prim.Native.Nat.{ℕ, _+_, _-_, _≤_, _<_}
+use Prim.Native.Nat.{ℕ, _-_, _≤_, _<_}
 use native.Mathlib.Omega.{arith}
-use borrow.Author.Tests.{lt-ltb, le-ltb}
+use borrow.Author.Tests.{lt-ltb, le-ltb, ltb-false}
 use lib.Dec.{ltb}
-use lib.ListN.{length, take, drop, length-drop, drop-of-length-le}
+use lib.ListN.{length, take, drop, length-drop, drop-of-length-le, take-append-drop}
 use lib.Seq.{take-all, take-length, drop-length}
 use Rattle.refusal.specs.declared.Refusal.{Refusal}
 use Rattle.refusal.specs.Refusals.{Numbered, Answered, number, served, refused, paper, inOrder}
-use Rattle.refusal.specs.Room.{overlay}
+use Rattle.refusal.specs.Room.{overlay, emit}
 use Rattle.refusal.proofs.Room.{take-overlay}
 use Rattle.shdlc.specs.declared.Checked.{Checked}
 use Rattle.shdlc.specs.declared.Checked.the-variants.{Good, Refused}
 use Rattle.shdlc.specs.Frame.{frameOf, writeFrame}
+use Rattle.shdlc.specs.Paper.{writtenOf}
 use Rattle.sfc6.specs.declared.Request.{Request}
 use Rattle.sfc6.specs.declared.Row.{Row}
 use Rattle.sfc6.specs.Commands.{row}
-use Rattle.sfc6.specs.Requests.{requestChecks, checkRequest, dataOf, bodyOf, frameToWrite, lay, writeRequest}
+use Rattle.sfc6.specs.Requests.{requestChecks, checkRequest, dataOf, bodyOf, frameToWrite, writeRequest}
 use Rattle.sfc6.specs.Rounds.{appendRequest}
 use Rattle.sfc6.specs.Paper.{paperPassed}
-use Rattle.sfc6.proofs.Order.{first-refuses, then-more}
+use Rattle.sfc6.proofs.Order.{never, first-refuses, then-more}
 
 -- the test of the data's length
 abbrev pub five : Row → List (Bool × Numbered)
 five r = (ltb 255 (length (dataOf r)), number 5) ∷ []
 
-module _ (address : ℕ) (request : Request) (room : List ℕ) {c : Checked} (is : paperPassed (address, request) c ≡ checkRequest address request) where
-  pub write-refused : {why : Refusal} → c ≡ Refused why → (refused (paper why), room) ≡ writeRequest address request room
-  unfolding writeRequest frameToWrite checkRequest
-  write-refused e =
-      sym (ap (λ (a : Answered (List ℕ)). lay a room) (first-refuses (address, request) (frameOf (bodyOf address (row request))) (five (row request)) (requestChecks address request) (sym is ∙ ap (paperPassed (address, request)) e)))
+-- what is refused before the room is looked at, of any request of the row
+module _ (address : ℕ) (r : Row) (c : Checked)
+    (is : (request : Request) → row request .value ≡ r .value → paperPassed (address, request) c ≡ checkRequest address request) where
+  module _ (request : Request) (at-row : row request ≡ r) where
+    checked : paperPassed (address, request) c ≡ checkRequest address request
+    checked = is request (ap (λ (x : Row). x .value) at-row)
 
-  module _ (good : c ≡ Good) {r : Row} (at-row : r ≡ row request) where
     -- only 5 and 1 are left
-    rest : frameToWrite address request ≡ inOrder (five r) (frameOf (bodyOf address r))
+    rest : c ≡ Good → frameToWrite address request ≡ inOrder (five r) (frameOf (bodyOf address r))
     unfolding frameToWrite checkRequest
-    rest =
+    rest good =
         then-more (address, request) (frameOf (bodyOf address (row request))) (five (row request)) (requestChecks address request)
-        (sym is ∙ ap (paperPassed (address, request)) good)
+        (sym checked ∙ ap (paperPassed (address, request)) good)
         ∙ rw at-row
 
-    module _ {size : ℕ} (counted : size ≡ length (dataOf r)) where
-      pub write-long : 255 < size → (refused (number 5), room) ≡ writeRequest address request room
-      unfolding writeRequest
-      write-long h = rw (rest, ← counted, lt-ltb _ _ h)
+  pub row-refused : {why : Refusal} → c ≡ Refused why → (request : Request) → row request ≡ r → refused (paper why) ≡ frameToWrite address request
+  unfolding frameToWrite checkRequest
+  row-refused e request at-row =
+      sym (first-refuses (address, request) (frameOf (bodyOf address (row request))) (five (row request)) (requestChecks address request)
+      (sym (checked request at-row) ∙ ap (paperPassed (address, request)) e))
 
-      pub write-frame : size ≤ 255 → (end : ℕ) (zeros w : List ℕ) {o : Answered ℕ × List ℕ}
-          → (end ≡ length (bodyOf address r)) × (w ≡ overlay zeros 0 (bodyOf address r))
-          → o ≡ writeFrame (take end w) room → o ≡ writeRequest address request room
-      unfolding writeRequest
-      write-frame h end zeros w f g = rw (rest, ← counted, le-ltb _ _ h) (g ∙ rw (f .0, f .1, take-overlay))
+  module _ (good : c ≡ Good) {size : ℕ} (counted : size ≡ length (dataOf r)) where
+    pub row-long : 255 < size → (request : Request) → row request ≡ r → refused (number 5) ≡ frameToWrite address request
+    row-long h request at-row = rw (rest request at-row good, ← counted, lt-ltb _ _ h)
 
--- a frame into the room left
+    pub row-good : size ≤ 255 → (request : Request) → row request ≡ r → served (frameOf (bodyOf address r)) ≡ frameToWrite address request
+    row-good h request at-row = rw (rest request at-row good, ← counted, le-ltb _ _ h)
+
+-- the row's bytes, laid down and framed
+pub row-laid : (address : ℕ) (r : Row) (end : ℕ) (zeros w room : List ℕ) {o : Answered ℕ × List ℕ}
+    → (end ≡ length (bodyOf address r)) × (w ≡ overlay zeros 0 (bodyOf address r))
+    → o ≡ writeFrame (take end w) room → o ≡ writeFrame (bodyOf address r) room
+row-laid address r end zeros w room f g = g ∙ rw (f .0, f .1, take-overlay)
+
+-- a frame into a room
+module _ (address : ℕ) (request : Request) (room frame : List ℕ) (c : Checked) (is : paperPassed frame c ≡ frameToWrite address request) where
+  pub write-refused : {why : Refusal} → c ≡ Refused why → (refused (paper why), room) ≡ writeRequest address request room
+  unfolding writeRequest
+  write-refused e = rw (← is, e)
+
+  pub write-laid : c ≡ Good → (n : ℕ) {o : Answered ℕ} {w : List ℕ} → o ≡ writtenOf n → (writtenOf n, w) ≡ emit frame room
+      → (o, w) ≡ writeRequest address request room
+  unfolding writeRequest
+  write-laid good n e f = rw (← is, good, e) f
+
+-- bytes that were laid stand at the room's start, and fit
+pub emit-laid : (bytes room : List ℕ) (n : ℕ) → emit bytes room .0 ≡ served n
+    → (n ≡ length bytes) × (emit bytes room .1 ≡ overlay room 0 bytes) × (length bytes ≤ length room)
+unfolding emit
+emit-laid bytes room n = go (ltb (length room) (length bytes)) refl
+  where
+    go : (t : Bool) → ltb (length room) (length bytes) ≡ t
+        → cond {A = Answered ℕ × List ℕ} t (refused (number 1), room) (served (length bytes), overlay room 0 bytes) .0 ≡ served n
+        → (n ≡ length bytes)
+        × (cond {A = Answered ℕ × List ℕ} t (refused (number 1), room) (served (length bytes), overlay room 0 bytes) .1 ≡ overlay room 0 bytes)
+        × (length bytes ≤ length room)
+    go true e h = never (sym h)
+    go false e h = (cc, refl, ltb-false _ _ e)
+
+-- a frame into the room left: where it is refused, all is as it was
+pub append-refused : (buffer : List ℕ) (start address : ℕ) (request : Request) {n : Numbered}
+    → (refused n, drop start buffer) ≡ writeRequest address request (drop start buffer) → (refused n, buffer) ≡ appendRequest buffer start address request
+unfolding appendRequest
+append-refused buffer start address request e = rw (← e, take-append-drop start buffer)
+
 module _ (buffer : List ℕ) (start end : ℕ) where
   -- where the room starts: at the place asked for, or at the end where that is past it
   abbrev pub Starts : Type 0

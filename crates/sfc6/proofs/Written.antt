@@ -1,18 +1,17 @@
 -- A request that is written is read back. Assumes nothing.
-use mathlib.Core.Path.{_≡_, refl, sym, ap, subst, _∙_}
+use mathlib.Core.Path.{_≡_, refl, sym, ap, _∙_}
 use mathlib.Core.Logic.{⊎-elim}
-use mathlib.Core.Bool.{Bool, true, false, cond}
-use mathlib.Core.List.{List, [], _∷_, _++_, map}
-use Prim.Native.Nat.{ℕ, _+_, _-_, _^_, min, _≤_, _<_}
+use mathlib.Core.List.{List, [], _∷_, map}
+use Prim.Native.Nat.{ℕ, _-_, _^_, min, _≤_, _<_}
 use native.Mathlib.Omega.{arith}
-use lib.Dec.{T, ltb}
-use lib.ListN.{length, take, drop, getD, length-append}
+use lib.Dec.{T}
+use lib.ListN.{length, take, length-append}
 use lib.Seq.{take-at}
 use lib.Ieee.{Float, binary32, fits, toBits, ofBits}
 use lib.Ieee.Bits.{ofBits-toBits, toBits-lt}
 use borrow.Author.Tests.{le-ltb}
-use Rattle.refusal.specs.Refusals.{Numbered, Answered, number, served, refused, inOrder}
-use Rattle.refusal.specs.Room.{overlay, emit}
+use Rattle.refusal.specs.Refusals.{Answered, number, served}
+use Rattle.refusal.specs.Room.{emit}
 use Rattle.refusal.proofs.Room.{take-overlay}
 use Rattle.shdlc.specs.declared.Kind.the-variants as kind
 use Rattle.shdlc.specs.Checksum.{checksumOf}
@@ -32,7 +31,7 @@ use Rattle.sfc6.specs.Reading.{startsWith, named, fitting, first, carrie
 use Rattle.sfc6.specs.ReadBack.{Fits}
 use Rattle.sfc6.proofs.Order.{never, first-refuses, then-more, passes-or-refuses}
 use Rattle.sfc6.proofs.Laid.{data-short}
-use Rattle.sfc6.proofs.Writing.{five}
+use Rattle.sfc6.proofs.Writing.{five, emit-laid}
 
 -- a number of so many bytes, and a float, that are written and read
 long : (n : ℕ) → n < 2 ^ 32 → big (bigEndian 4 n) ≡ n
@@ -105,16 +104,9 @@ module _ (address : ℕ) (request : Request) where
   -- a writer that succeeds was not refused, and the room starts with the frame
   module _ (room after : List ℕ) (n : ℕ) where
     laid : emit (frameOf body) room ≡ (served n, after) → take n after ≡ frameOf body
-    unfolding emit
-    laid = go (ltb (length room) (length (frameOf body)))
-      where
-        go : (t : Bool) → _≡_ {A = Answered ℕ × List ℕ} (cond t (refused (number 1), room) (served (length (frameOf body)), overlay room 0 (frameOf body))) (served n, after)
-            → take n after ≡ frameOf body
-        go true h = never (sym (ap (λ (o : Answered ℕ × List ℕ). o .0) h))
-        go false h =
-            let d : served (length (frameOf body)) ≡ served n = ap (λ (o : Answered ℕ × List ℕ). o .0) h in
-            let e : length (frameOf body) ≡ n = cc in
-            rw (← e, ← ap (λ (o : Answered ℕ × List ℕ). o .1) h) (take-overlay room (frameOf body))
+    laid h =
+        let e = emit-laid (frameOf body) room n (ap (λ (o : Answered ℕ × List ℕ). o .0) h) in
+        rw (e .0, ← ap (λ (o : Answered ℕ × List ℕ). o .1) h, e .1) (take-overlay room (frameOf body))
 
     pub written : writeRequest address request room ≡ (served n, after)
         → (checkRequest address request ≡ served (address, request)) × (take n after ≡ frameOf body)

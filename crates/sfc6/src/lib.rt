@@ -11,12 +11,14 @@ ghost use Prim.Native.Nat.{_+_, _^_, _≤_, _<_, min};
 ghost use mathlib.Core.Bool.{cond};
 ghost use lib.ListN.{length, drop};
 ghost use lib.Ieee.{binary32, toBits, ofBits};
+ghost use Rattle.sfc6.specs.declared.Request.{Request as Asked};
 ghost use Rattle.sfc6.specs.Commands.{withSub, withoutSub, row, table, requestAt, bauds, member, finite, outOfRange, badFloat, addressToAll};
-ghost use Rattle.sfc6.specs.Requests.{checkRequest, subBytes, valueBytes, dataOf, bodyOf, writeRequest};
+ghost use Rattle.sfc6.specs.Requests.{checkRequest, subBytes, valueBytes, dataOf, bodyOf, frameToWrite, writeRequest};
 ghost use Rattle.sfc6.specs.Rounds.{appendRequest, pollRound};
 ghost use Rattle.sfc6.specs.Reading.{startsWith, named, fitting, first, carried, typed, readRequest};
 ghost use Rattle.refusal.specs.Room.{overlay};
-ghost use Rattle.shdlc.specs.Paper.{paperWritten};
+ghost use Rattle.shdlc.specs.Frame.{frameOf, writeFrame};
+ghost use Rattle.shdlc.specs.Paper.{paperWritten, writtenOf};
 ghost use Rattle.payload.specs.Field.{big, bytesIn, bigEndian};
 ghost use Rattle.sfc6.specs.Paper.{paperPassed, paperRound, paperFound, paperTyped, paperRead};
 
@@ -283,12 +285,10 @@ fn address_to_all(address: u8, value: Value) -> bool
     }
 }
 
-// The request's own refusals, in their order: 12, 13, 10.
-pub fn check_request(address: u8, request: Request) -> Checked
-    ensures { λ r. ⌜ paperPassed (address, request) r ≡ checkRequest address request ⌝ }
+// The refusals of what a request carries, in their order: 12, 13, 10.
+fn check_value(address: u8, value: Value) -> Checked
+    ensures { λ r. ⌜ ((request : Asked) → row request .value ≡ value → paperPassed (address, request) r ≡ checkRequest address request) ⌝ }
 {
-    let row = row_of(request);
-    let value = row.value;
     if out_of_range(value) {
         return Checked::Refused(Refusal::OutOfRange);
     }
@@ -299,6 +299,15 @@ pub fn check_request(address: u8, request: Request) -> Checked
         return Checked::Refused(Refusal::AddressBroadcast);
     }
     Checked::Good
+}
+
+// The request's own refusals, in their order: 12, 13, 10.
+pub fn check_request(address: u8, request: Request) -> Checked
+    ensures { λ r. ⌜ paperPassed (address, request) r ≡ checkRequest address request ⌝ }
+{
+    let row = row_of(request);
+    let value = row.value;
+    check_value(address, value)
 }
 
 // Writes a number in so many bytes at a place, and answers the place after it.
@@ -392,22 +401,40 @@ fn put_body(out: &mut [u8], address: u8, row: Row, size: usize) -> usize
     put_value(out, place, value)
 }
 
+// What both writers refuse before the room is looked at, in its order: 12, 13, 10, 5.
+fn check_row(address: u8, asked: Row) -> Checked
+    ensures { λ r. ⌜ ((request : Asked) → row request ≡ asked → paperPassed (frameOf (bodyOf address asked)) r ≡ frameToWrite address request) ⌝ }
+{
+    let value = asked.value;
+    if let Checked::Refused(r) = check_value(address, value) {
+        return Checked::Refused(r);
+    }
+    // No request of the table has so many data bytes; the scope asks for the test in both writers.
+    if 255 < data_size(asked) {
+        return Checked::Refused(Refusal::BodyTooLong);
+    }
+    Checked::Good
+}
+
+// Writes the frame of a row at the start of the lent room, and answers its length; 0 where the room is too short.
+fn lay_row(address: u8, asked: Row, out: &mut [u8]) -> usize
+    ensures { λ r. ⌜ (writtenOf r, now (out .exit)) ≡ writeFrame (bodyOf address asked) (now (out .entry)) ⌝ }
+{
+    let size = data_size(asked);
+    let mut body = [0u8; 8];
+    let end = put_body(&mut body, address, asked, size);
+    shdlc::lay_frame(&body[..end], out)
+}
+
 // Writes the frame of a request at the start of the lent room.
 pub fn write_request(address: u8, request: Request, out: &mut [u8]) -> Written
     ensures { λ r. ⌜ (paperWritten r, now (out .exit)) ≡ writeRequest address request (now (out .entry)) ⌝ }
 {
-    if let Checked::Refused(r) = check_request(address, request) {
+    let asked = row_of(request);
+    if let Checked::Refused(r) = check_row(address, asked) {
         return Written::Refused(r);
     }
-    let asked = row_of(request);
-    let size = data_size(asked);
-    // No request of the table has so many data bytes; the scope asks for the test in both writers.
-    if 255 < size {
-        return Written::Refused(Refusal::BodyTooLong);
-    }
-    let mut body = [0u8; 8];
-    let end = put_body(&mut body, address, asked, size);
-    shdlc::write_frame(&body[..end], out)
+    shdlc::written_of(lay_row(address, asked, out))
 }
 
 // Writes the frame of a request into the room that a buffer has left from `start` on. Past its end there is none: 1, but only where
@@ -415,11 +442,15 @@ pub fn write_request(address: u8, request: Request, out: &mut [u8]) -> Written
 pub fn append_request(buffer: &mut [u8], start: usize, address: u8, request: Request) -> Written
     ensures { λ r. ⌜ (paperWritten r, now (buffer .exit)) ≡ appendRequest (now (buffer .entry)) start address request ⌝ }
 {
+    let asked = row_of(request);
+    if let Checked::Refused(r) = check_row(address, asked) {
+        return Written::Refused(r);
+    }
     let mut end = buffer.len();
     if start < end {
         end = start;
     }
-    write_request(address, request, &mut buffer[end..])
+    shdlc::written_of(lay_row(address, asked, &mut buffer[end..]))
 }
 
 // Lays the frames of a polling round one after another from `start` on: the same request to each of the nodes. The first frame that is
@@ -525,15 +556,15 @@ fn carried(row: Row, payload: &[u8]) -> u32
     }
 }
 
-// Reads a command and its data: 11, then 12 for the length.
+// Reads a command and its data: 11, then 12 for the length. A row that fits is also named, so that 11 is looked for only where none fits.
 fn read_typed(command: u8, payload: &[u8]) -> Typed
     ensures { λ r. ⌜ paperTyped r ≡ typed command (now (payload .entry)) ⌝ }
 {
-    let Found::At(_) = find(command, payload, false) else {
-        return Typed::Refused(Refusal::UnknownCommand);
-    };
     let Found::At(place) = find(command, payload, true) else {
-        return Typed::Refused(Refusal::OutOfRange);
+        if let Found::At(_) = find(command, payload, false) {
+            return Typed::Refused(Refusal::OutOfRange);
+        }
+        return Typed::Refused(Refusal::UnknownCommand);
     };
     let n = carried(row_of(request_of(place, 0)), payload);
     Typed::Known(request_of(place, n))

@@ -4,26 +4,22 @@ use Rattle.sfc6.proofs.Reading.{typed-unknown, typed-unfit, typed-whole
 use Rattle.sfc6.proofs.read_typed.Statement.{statement}
 use Rattle.sfc6.proofs.read_typed.Tie as tie
 
-returns-2 : tie.Need-returns-2
-returns-2 c =
+returns : tie.Need-returns
+returns c =
     let g = c .before .before in
-    let f = g .before .before .before in
-    typed-unfit _ _ (f .find .ensures) (g .before .enum-told .given .1) (g .find2 .ensures) (c .enum-told3 .given .1)
+    let f = g .before in
+    typed-unfit _ _ (f .before .before .find .ensures) (f .enum-told .given .1) (g .find2 .ensures) (c .enum-told2 .given .1)
 
 carried-requires : tie.Need-carried-requires
 carried-requires c κs =
     let p = c .before .before .before in
-    let g = p .before .before in
-    let f = g .before .before .before in
-    typed-whole _ _ (f .find .ensures) (g .before .enum-told .given .1) (g .find2 .ensures) (p .place .given .1) (c .before .request-of .ensures) (c .row-of .ensures)
+    typed-whole _ _ (p .before .before .find .ensures) (p .place .given .1) (c .before .request-of .ensures) (c .row-of .ensures)
 
 returns-3 : tie.Need-returns-3
 returns-3 c =
     let r = c .before .before in
     let p = r .before .before .before in
-    let g = p .before .before in
-    let f = g .before .before .before in
-    typed-known _ _ (f .find .ensures) (g .before .enum-told .given .1) (g .find2 .ensures) (p .place .given .1) (r .before .request-of .ensures) (r .row-of .ensures)
+    typed-known _ _ (p .before .before .find .ensures) (p .place .given .1) (r .before .request-of .ensures) (r .row-of .ensures)
     (c .before .carried .ensures) (c .request-of2 .ensures)
 
 pub read-typed-spec : {M : Type 1} → statement M
@@ -33,11 +29,11 @@ read-typed-spec =
     (λ c κs. search needs)
     (λ c. search needs)
     (λ c. search needs)
-    (λ c. typed-unknown _ _ (c .before .before .find .ensures) (c .enum-told2 .given .1))
     (λ c κs. search needs)
     (λ c. search needs)
+    returns
     (λ c. search needs)
-    returns-2
+    (λ c. typed-unknown _ _ (c .before .before .find2 .ensures) (c .enum-told3 .given .1))
     (λ c κs. search needs)
     (λ c κs. search needs)
     carried-requires
