@@ -8,7 +8,7 @@ use Prim.Native.Nat.{ℕ, zero, suc, _+_, _-_, _%_, _≤_, _<_}
 use native.Mathlib.Omega.{arith}
 use lib.Dec.{T, eqb, ltb, leb}
 use lib.ListN.{length, getD, take, drop, length-append, length-take, length-drop}
-use lib.Seq.{getD-drop, take-take}
+use lib.Seq.{take-take}
 use borrow.Author.Tests.{lt-ltb, le-ltb, leb-true, leb-false, eqb-true, ltb-false, not-false}
 use Rattle.refusal.specs.Refusals.{Numbered, number, _carrying_, numberIn, Answered, served, refused, inOrder}
 use Rattle.refusal.specs.Room.{overlay, emit}
@@ -22,6 +22,7 @@ use Rattle.sfc6.specs.declared.Request.{Request}
 use Rattle.sfc6.specs.declared.Row.{Row}
 use Rattle.sfc6.specs.Commands.{row, member}
 use Rattle.sfc6.specs.Requests.{requestChecks, checkRequest, lay}
+use Rattle.sfc6.proofs.Rewritten.{bytes-drop, bytes-take}
 use Rattle.sfc6.proofs.Order.{never, first-refuses, then-more, passes-or-refuses}
 use Rattle.replies.specs.declared.Reply.{Reply}
 use Rattle.replies.specs.declared.Reply.the-variants.{ProductType, DeviceError}
@@ -123,15 +124,6 @@ unfolding foreign
 belongs address r body h =
     let p = first-three (eqb address 255) (not (eqb (getD body 0 0) address)) (not (eqb (getD body 1 0) (r .command))) _ h in
     (p .0, eqb-true _ _ (not-false _ (p .1)), eqb-true _ _ (not-false _ (p .2)))
-
-bytes-drop : (n : ℕ) (l : List ℕ) → Bytes l → Bytes (drop n l)
-bytes-drop n l h i = rw (getD-drop n l i 0) (h (n + i))
-
-bytes-take : (n : ℕ) (l : List ℕ) → Bytes l → Bytes (take n l)
-bytes-take zero l h i = omega arith
-bytes-take (suc n) [] h i = h i
-bytes-take (suc n) (x ∷ l) h zero = h 0
-bytes-take (suc n) (x ∷ l) h (suc i) = bytes-take n l (λ j. h (suc j)) i
 
 -- the front of a body of five bytes or more
 front : (b : List ℕ) → 5 ≤ length b → getD b 0 0 ∷ getD b 1 0 ∷ getD b 2 0 ∷ getD b 3 0 ∷ dataIn b ≡ take (length b - 1) b

@@ -450,7 +450,7 @@ fn write_content(
     bit7: bool,
     out: &mut [u8],
 ) -> Written
-    requires { ⌜ (outOfRange content ≡ false) × (badText content (now text) ≡ false) ⌝ }
+    requires { ⌜ outOfRange content ≡ false ⌝ }
     ensures { λ r. ⌜ (paperWritten r, now (out .exit)) ≡ lay (inOrder ((ltb 255 (length (dataOf content (now (text .entry)))), number 5) ∷ []) (frameFor address command content (now (text .entry)) bit7)) (now (out .entry)) ⌝ }
 {
     let state = state_of(content, bit7);

@@ -113,10 +113,11 @@ starts-split sub.Missing payload h = refl
 starts-split (sub.Byte s) [] h = absurd (true≢false (sym h))
 starts-split (sub.Byte s) (b ∷ payload) h = ap (λ (x : ℕ). x ∷ payload) (sym (eqb-true b s h))
 
-bytes-drop : (n : ℕ) (l : List ℕ) → Bytes l → Bytes (drop n l)
+-- a part of bytes is bytes
+pub bytes-drop : (n : ℕ) (l : List ℕ) → Bytes l → Bytes (drop n l)
 bytes-drop n l h i = rw (getD-drop n l i 0) (h (n + i))
 
-bytes-take : (n : ℕ) (l : List ℕ) → Bytes l → Bytes (take n l)
+pub bytes-take : (n : ℕ) (l : List ℕ) → Bytes l → Bytes (take n l)
 bytes-take zero l h i = omega arith
 bytes-take (suc n) [] h i = h i
 bytes-take (suc n) (x ∷ l) h zero = h 0
