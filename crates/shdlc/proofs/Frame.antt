@@ -129,8 +129,12 @@ module _ (body room : List ℕ) {test : Bool} (e : test ≡ ltb (length room) (l
   fits-room h = ltb-false _ _ (sym e ∙ h)
 
 -- a body is one in three parts of which two are empty
-pub one-part : (body : List ℕ) (room : ℕ) {test : Bool} → test ≡ ltb room (length (frameOf (body ++ []))) → test ≡ ltb room (length (frameOf body))
-one-part body room e = rw (append-nil body) at e
+module _ (body room : List ℕ) where
+  pub one-part : (n : ℕ) (after : List ℕ) → (writtenOf n, after) ≡ writeFrame (body ++ []) room → (writtenOf n, after) ≡ writeFrame body room
+  one-part n after e = rw (append-nil body) at e
+
+  pub one-roomy : {test : Bool} → test ≡ not (ltb (length room / 2) (length body + 0 + 2)) → test ≡ true → length (frameOf body) ≤ length room
+  one-roomy e h = rw (append-nil body) at (parts-roomy body [] [] (length room) (roomy-holds _ _ _ e h))
 
 pub one-sum : (body : List ℕ) (total : ℕ) → total ≡ (0 + sum body) % 256 → 255 - total ≡ checksumOf body
 unfolding checksumOf

@@ -233,19 +233,8 @@ fn is_short(first: &[u8], second: &[u8], third: &[u8], room: usize) -> bool
     is_longer(first, second, third, room)
 }
 
-// Writes the frame of a body without its checksum at the start of the lent room, and answers its length; 0 where the room is too short.
-pub fn lay_frame(body: &[u8], out: &mut [u8]) -> usize
-    ensures { λ r. ⌜ (writtenOf r, now (out .exit)) ≡ writeFrame (now (body .entry)) (now (out .entry)) ⌝ }
-{
-    if is_short(body, &[], &[], out.len()) {
-        return 0;
-    }
-    out[0] = 0x7E;
-    let a = put_stuffed(out, 1, 0, body);
-    finish(out, a.place, a.total)
-}
-
-// The same of a body in three parts.
+// Writes the frame of a body in three parts, without its checksum, at the start of the lent room, and answers its length; 0 where the room
+// is too short.
 pub fn lay_parts(first: &[u8], second: &[u8], third: &[u8], out: &mut [u8]) -> usize
     ensures { λ r. ⌜ (writtenOf r, now (out .exit)) ≡ writeFrame (now (first .entry) ++ (now (second .entry) ++ now (third .entry))) (now (out .entry)) ⌝ }
 {
@@ -257,6 +246,18 @@ pub fn lay_parts(first: &[u8], second: &[u8], third: &[u8], out: &mut [u8]) -> u
     let b = put_stuffed(out, a.place, a.total, second);
     let c = put_stuffed(out, b.place, b.total, third);
     finish(out, c.place, c.total)
+}
+
+// The same of a body in one part.
+pub fn lay_frame(body: &[u8], out: &mut [u8]) -> usize
+    ensures { λ r. ⌜ (writtenOf r, now (out .exit)) ≡ writeFrame (now (body .entry)) (now (out .entry)) ⌝ }
+{
+    if !is_roomy(body.len(), 0, out.len()) {
+        return lay_parts(body, &[], &[], out);
+    }
+    out[0] = 0x7E;
+    let a = put_stuffed(out, 1, 0, body);
+    finish(out, a.place, a.total)
 }
 
 // What a writer answers of such a length.

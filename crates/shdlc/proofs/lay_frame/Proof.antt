@@ -5,19 +5,20 @@ use mathlib.Core.List.{List}
 use Prim.Native.Nat.{ℕ, _≤_}
 use native.Mathlib.Omega.{arith}
 use lib.ListN.{length, length-set}
+use borrow.Author.Tests.{not-false}
 use Rattle.shdlc.specs.Frame.{frameOf}
-use Rattle.shdlc.proofs.Frame.{one-part, one-sum, no-frame, fits-room, first-fits, body-fits, end-fits, frame-laid}
+use Rattle.shdlc.proofs.Frame.{one-part, one-roomy, one-sum, first-fits, body-fits, end-fits, frame-laid}
 use Rattle.shdlc.proofs.lay_frame.Statement.{statement}
 use Rattle.shdlc.proofs.lay_frame.Tie as tie
 
-abbrev Body : tie.After-is-short → List ℕ
-Body c = c .before .before .before .before .before .args .body .now
+abbrev Body : tie.After-is-roomy → List ℕ
+Body c = c .before .before .before .args .body .now
 
-abbrev Room : tie.After-is-short → List ℕ
-Room c = c .before .before .before .before .before .args .out .now
+abbrev Room : tie.After-is-roomy → List ℕ
+Room c = c .before .before .before .args .out .now
 
 fits : (c : tie.Else1) → length (frameOf (Body (c .before))) ≤ length (Room (c .before))
-fits c = fits-room (Body (c .before)) (Room (c .before)) (one-part _ _ (c .before .is-short .ensures)) (c .if1 .left)
+fits c = one-roomy (Body (c .before)) (Room (c .before)) (c .before .is-roomy .ensures) (not-false _ (c .if1 .left))
 
 finish-requires : tie.Need-finish-requires
 finish-requires c κs =
@@ -27,8 +28,8 @@ finish-requires c κs =
     let kept : length (p .put-stuffed .last .0) ≡ length (Room s) = omega (arith, p .put-stuffed, length-set (Room s) 0 0x7E) in
     end-fits (Body s) (Room s) (fits (p .before .before)) _ _ _ (one-sum _ _ (e .1)) (e .0, e .2) kept
 
-same-length : tie.Need-same-length
-same-length c =
+same-length-2 : tie.Need-same-length-2
+same-length-2 c =
     let p = c .before .before .before .before .before .before in
     omega (arith, p .put-stuffed, c .before .before .finish, length-set (Room (p .before .before .before)) 0 0x7E)
 
@@ -43,12 +44,14 @@ pub lay-frame-spec : {M : Type 1} → statement M
 lay-frame-spec =
     tie.close
     (tie.spec
+    (λ c κs. search needs)
     (λ c. search needs)
     (λ c. search needs)
     (λ c κs. search needs)
-    (λ c. no-frame _ _ (one-part _ _ (c .before .is-short .ensures)) (c .if1 .taken))
+    (λ c. search needs)
+    (λ c. one-part _ _ _ _ (c .before .before .lay-parts .ensures))
     (λ c. first-fits (Body (c .before)) (Room (c .before)) (fits c))
     (λ c κs. body-fits (Body (c .before .before)) (Room (c .before .before)) (fits (c .before)))
     finish-requires
-    same-length
+    same-length-2
     returns-2)
