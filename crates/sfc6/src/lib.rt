@@ -13,7 +13,7 @@ ghost use lib.ListN.{length, drop};
 ghost use lib.Ieee.{binary32, toBits, ofBits};
 ghost use Rattle.sfc6.specs.declared.Request.{Request as Asked};
 ghost use Rattle.sfc6.specs.Commands.{withSub, withoutSub, row, table, requestAt, bauds, member, finite, outOfRange, badFloat, addressToAll};
-ghost use Rattle.sfc6.specs.Requests.{checkRequest, subBytes, valueBytes, dataOf, bodyOf, frameToWrite, writeRequest};
+ghost use Rattle.sfc6.specs.Requests.{rowOf, checkRequest, subBytes, valueBytes, dataOf, bodyOf, frameToWrite, writeRequest};
 ghost use Rattle.sfc6.specs.Rounds.{appendRequest, pollRound};
 ghost use Rattle.sfc6.specs.Reading.{startsWith, named, fitting, first, carried, typed, readRequest};
 ghost use Rattle.refusal.specs.Room.{overlay};
@@ -416,10 +416,17 @@ fn check_row(address: u8, asked: Row) -> Checked
     Checked::Good
 }
 
-// Writes the frame of a row at the start of the lent room, and answers its length; 0 where the room is too short.
-fn lay_row(address: u8, asked: Row, out: &mut [u8]) -> usize
-    ensures { λ r. ⌜ (writtenOf r, now (out .exit)) ≡ writeFrame (bodyOf address asked) (now (out .entry)) ⌝ }
+// Writes the frame of a row at the start of the lent room, and answers its length; 0 where the room is too short. It takes the row apart,
+// since a row would be handed over in memory, by pieces.
+fn lay_row(address: u8, command: u8, sub: Subcommand, value: Value, out: &mut [u8]) -> usize
+    ensures { λ r. ⌜ (writtenOf r, now (out .exit)) ≡ writeFrame (bodyOf address (rowOf command sub value)) (now (out .entry)) ⌝ }
 {
+    let asked = Row {
+        command: command,
+        sub: sub,
+        value: value,
+        answer: Answer::Nothing,
+    };
     let size = data_size(asked);
     let mut body = [0u8; 8];
     let end = put_body(&mut body, address, asked, size);
@@ -434,7 +441,9 @@ pub fn write_request(address: u8, request: Request, out: &mut [u8]) -> Written
     if let Checked::Refused(r) = check_row(address, asked) {
         return Written::Refused(r);
     }
-    shdlc::written_of(lay_row(address, asked, out))
+    let sub = asked.sub;
+    let value = asked.value;
+    shdlc::written_of(lay_row(address, asked.command, sub, value, out))
 }
 
 // Writes the frame of a request into the room that a buffer has left from `start` on. Past its end there is none: 1, but only where
@@ -450,7 +459,9 @@ pub fn append_request(buffer: &mut [u8], start: usize, address: u8, request: Req
     if start < end {
         end = start;
     }
-    shdlc::written_of(lay_row(address, asked, &mut buffer[end..]))
+    let sub = asked.sub;
+    let value = asked.value;
+    shdlc::written_of(lay_row(address, asked.command, sub, value, &mut buffer[end..]))
 }
 
 // Lays the frames of a polling round one after another from `start` on: the same request to each of the nodes. The first frame that is

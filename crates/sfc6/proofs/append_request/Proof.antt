@@ -2,6 +2,7 @@
 use borrow.Author.Needs.{needs}
 use mathlib.Core.Path.{_≡_, sym}
 use mathlib.Core.Logic.{⊎-elim}
+use Rattle.sfc6.specs.Requests.{dataOf, bodyOf}
 use Rattle.sfc6.proofs.Writing.{write-refused, write-laid, Starts, starts-at, starts-past, append-refused, appended}
 use Rattle.sfc6.proofs.append_request.Statement.{statement}
 use Rattle.sfc6.proofs.append_request.Tie as tie
@@ -16,6 +17,7 @@ starts : (c : tie.Joined1)
 starts c = ⊎-elim (λ w. starts-at _ _ _ (w .0 .taken) (w .1)) (λ w. starts-past _ _ _ (w .0 .left) (w .1)) (c .if1 .came)
 
 returns-2 : tie.Need-returns-2
+unfolding bodyOf dataOf
 returns-2 c =
     let l = c .before .before .before in
     let j = l .before .before .before in

@@ -1,6 +1,7 @@
 -- `sfc6::write_request` meets its contract. Assumes nothing.
 use borrow.Author.Needs.{needs}
 use mathlib.Core.Path.{_≡_, sym}
+use Rattle.sfc6.specs.Requests.{dataOf, bodyOf}
 use Rattle.sfc6.proofs.Writing.{write-refused, write-laid}
 use Rattle.sfc6.proofs.write_request.Statement.{statement}
 use Rattle.sfc6.proofs.write_request.Tie as tie
@@ -11,6 +12,7 @@ returns c =
     write-refused _ _ _ _ _ (k .check-row .ensures _ (sym (k .before .row-of .ensures))) (c .before .r .given .1)
 
 returns-2 : tie.Need-returns-2
+unfolding bodyOf dataOf
 returns-2 c =
     let l = c .before .before .before in
     let g = l .before .before in
