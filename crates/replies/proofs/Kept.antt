@@ -7,7 +7,7 @@ use Prim.Native.Nat.{ℕ, _-_, _/_, _%_, _^_, min, _<_}
 use native.Mathlib.Omega.{arith}
 use lib.Dec.{T, eqb, ltb}
 use lib.ListN.{length}
-use lib.Ieee.{Float, nan, inf, fin, binary32, isNan, toBits, ofBits}
+use lib.Ieee.{Float, nan, binary32, isNan, toBits, ofBits}
 use lib.Ieee.Bits.{ofBits-toBits, toBits-lt, toBits-ofBits, nanBits-is}
 use borrow.Author.Tests.{eq-eqb, ne-eqb, eqb-true, eqb-false, ltb-true, ltb-false, not-false}
 use Rattle.refusal.specs.Refusals.{served}
@@ -18,6 +18,7 @@ use Rattle.sfc6.specs.declared.Answer.{Answer}
 use Rattle.sfc6.specs.declared.Answer.the-variants as answer
 use Rattle.sfc6.specs.Commands.{row, finite, member}
 use Rattle.sfc6.proofs.Floats.{nan-above, nan-not-above}
+use Rattle.sfc6.proofs.Rewritten.{not-nan}
 use Rattle.replies.specs.declared.Reading.{Reading}
 use Rattle.replies.specs.declared.Reading.the-variants.{Finite, Invalid, PlusInfinity, MinusInfinity}
 use Rattle.replies.specs.declared.Reply.{Reply}
@@ -57,12 +58,6 @@ reading-back : (x : Reading) → FitsReading x → notFinite x ≡ false → rea
 reading-back x h g = rw (big-of-big-endian 4 (bitsOf x) (bits-small x h)) (coding-back x h g)
 
 -- the other way: a pattern that is read comes back
-not-nan : (x : Float) → not (finite (toBits binary32 x)) ≡ false → T (not (isNan x))
-unfolding isNan toBits
-not-nan nan h = absurd (let z : _≡_ {A = ℕ} 0 1 = cc in omega arith)
-not-nan (inf s) h = tt
-not-nan (fin s m e) h = tt
-
 pub pattern-back : (n : ℕ) → n < 2 ^ 32 → notFinite (readingOf n) ≡ false → bitsOf (readingOf n) ≡ n
 pattern-back n h = go (eqb n 0xFFFFFFFF) (eqb n 0x7F800000) (eqb n 0xFF800000) refl refl refl
   where

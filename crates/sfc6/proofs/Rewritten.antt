@@ -33,7 +33,7 @@ use Rattle.sfc6.proofs.Reading.{first-passes, both, fits-length}
 use Rattle.sfc6.proofs.Written.{to-write}
 
 -- a float's bits that are finite come back
-not-nan : (x : Float) → not (finite (toBits binary32 x)) ≡ false → T (not (isNan x))
+pub not-nan : (x : Float) → not (finite (toBits binary32 x)) ≡ false → T (not (isNan x))
 unfolding isNan toBits
 not-nan nan h = absurd (true≢false h)
 not-nan (inf s) h = tt
