@@ -18,9 +18,9 @@ use Rattle.shdlc.proofs.Stuffing.{each-byte}
 use Rattle.shdlc.proofs.Stream.{map-append}
 use Rattle.receiver.specs.declared.Mode.{Mode}
 use Rattle.receiver.specs.declared.Mode.the-variants.{Outside, Plain, Escaped, BadEscape, BareControl}
-use Rattle.receiver.specs.Record.{Record, inStretch, lengthInRange, inRange, fresh, Store, pushed, acted, nextByte, nextRecord, recordFrom, recordOf}
+use Rattle.receiver.specs.Record.{Record, lengthInRange, inRange, fresh, Store, pushed, acted, nextByte, nextRecord, recordFrom, recordOf}
 use Rattle.receiver.proofs.Cases.{range-size}
-use Rattle.receiver.proofs.Turns.{store-room}
+use Rattle.receiver.proofs.Turns.{inStretch, store-room}
 use Rattle.receiver.proofs.EverySeries.{record-append}
 
 -- a byte as it is sent is stored

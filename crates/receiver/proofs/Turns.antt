@@ -14,9 +14,19 @@ use Rattle.shdlc.specs.Stuffing.{isControl}
 use Rattle.refusal.proofs.Rest.{rest-here, rest-end}
 use Rattle.receiver.specs.declared.Mode.{Mode}
 use Rattle.receiver.specs.declared.Mode.the-variants.{Plain, Escaped, BareControl}
-use Rattle.receiver.specs.Record.{Record, inStretch, Act, Store, Become, actOf, acted, opened, pending, nextByte}
-use Rattle.receiver.specs.Calls.{Scan, scanFrom, Runs}
+use Rattle.receiver.specs.Record.{Record, Act, Store, Become, actOf, acted, opened, pending, nextByte}
+use Rattle.receiver.specs.Calls.{Scan, scanFrom}
 use Rattle.receiver.proofs.Bytes.{special}
+
+-- in a stretch without a fault, n bytes held
+abbrev pub inStretch : Kind → ℕ → List ℕ → Record
+inStretch kind n store = record { kind = kind; mode = Plain; len = n; store = store }
+
+-- the first n bytes of a piece are stored one after the other in a stretch: to scan the piece is to scan what is left of it
+abbrev pub Runs : List ℕ → ℕ → List ℕ → List ℕ → ℕ → Type 0
+Runs before len piece after n =
+    (kind : Kind) (taken : ℕ)
+    → scanFrom taken (inStretch kind len before) piece ≡ scanFrom (taken + n) (inStretch kind (len + n) after) (drop n piece)
 
 module _ (r : Record) (b : ℕ) where
   pub store-room : r .len < 260

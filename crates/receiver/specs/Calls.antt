@@ -1,10 +1,9 @@
 -- The models of the calls: what each gives for every record, piece and lent buffer.
 use Prim.Native.Nat.{ℕ, _+_}
-use mathlib.Core.Path.{_≡_}
 use mathlib.Core.Bool.{Bool, true, false, cond, _&&_}
 use mathlib.Core.List.{List, [], _∷_}
 use lib.Dec.{ltb, eqb}
-use lib.ListN.{length, drop, replicate}
+use lib.ListN.{length, replicate}
 use Rattle.refusal.specs.Refusals.{Numbered, number, Answered, served, refused, paper}
 use Rattle.refusal.specs.Room.{overlay}
 use Rattle.shdlc.specs.declared.Kind.{Kind}
@@ -17,7 +16,7 @@ use Rattle.receiver.specs.declared.Made.the-variants as made
 use Rattle.receiver.specs.declared.Fed.{Fed}
 use Rattle.receiver.specs.declared.Scanned.{Scanned}
 use Rattle.receiver.specs.declared.Quiet.{Quiet}
-use Rattle.receiver.specs.Record.{Record, held, inStretch, inRange, fresh, opened, silenced, pending, itemOf, nextByte}
+use Rattle.receiver.specs.Record.{Record, held, inRange, fresh, opened, silenced, pending, itemOf, nextByte}
 
 -- what a call says: nothing yet, or an item, a frame by the length of its body
 pub data Said : Type 0 where
@@ -95,12 +94,6 @@ unfoldable pub scanFrom : ℕ → Record → List ℕ → Scan
 scanFrom taken r [] = record { before = r; taken = taken; closed = false }
 scanFrom taken r (b ∷ piece) =
     cond (closes r b) (record { before = r; taken = taken + 1; closed = true }) (scanFrom (taken + 1) (nextByte r b) piece)
-
--- the first n bytes of a piece are stored one after the other in a stretch: to scan the piece is to scan what is left of it
-abbrev pub Runs : List ℕ → ℕ → List ℕ → List ℕ → ℕ → Type 0
-Runs before len piece after n =
-    (kind : Kind) (taken : ℕ)
-    → scanFrom taken (inStretch kind len before) piece ≡ scanFrom (taken + n) (inStretch kind (len + n) after) (drop n piece)
 
 -- bytes are taken up to and including the one that completes an item, else the whole piece
 abbrev pub fedBy : Scan → List ℕ → Outcome

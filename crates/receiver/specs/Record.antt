@@ -24,10 +24,6 @@ pub record Record : Type 0 where
 abbrev pub held : Receiver → List ℕ → Record
 held r store = record { kind = r .kind; mode = r .mode; len = r .len; store = store }
 
--- in a stretch without a fault, n bytes held
-abbrev pub inStretch : Kind → ℕ → List ℕ → Record
-inStretch kind n store = record { kind = kind; mode = Plain; len = n; store = store }
-
 -- the modes by number: 0 outside, 1 plain, 2 escaped, 3 and 4 the refusal found
 abbrev pub numberOfMode : Mode → ℕ
 numberOfMode Outside = 0

@@ -5,15 +5,16 @@ use shdlc::Kind;
 ghost use mathlib.Core.Path.{_≡_};
 ghost use mathlib.Core.Bool.{cond, _&&_, _||_};
 ghost use mathlib.Core.Option.{none, some};
-ghost use Prim.Native.Nat.{_≤_, _+_};
+ghost use Prim.Native.Nat.{ℕ, _≤_, _+_};
 ghost use lib.Bits.{bitXor};
 ghost use lib.Dec.{eqb};
-ghost use lib.ListN.{length, take, replicate};
+ghost use lib.ListN.{length, take, drop, replicate};
 ghost use Rattle.refusal.specs.Room.{overlay};
+ghost use Rattle.shdlc.specs.declared.Kind.{Kind as FrameKind};
 ghost use Rattle.shdlc.specs.Paper.{paperChecked};
 ghost use Rattle.shdlc.specs.Stuffing.{escapes, leftOf, isControl};
 ghost use Rattle.receiver.specs.Record.{held, numberOfMode, modeOf, outsideOf, lengthInRange, pendingIn, itemIn};
-ghost use Rattle.receiver.specs.Calls.{paperFed, paperQuiet, paperMade, freshOf, feedOf, silenceOf, completed, scannedAs, scanFrom, Runs};
+ghost use Rattle.receiver.specs.Calls.{paperFed, paperQuiet, paperMade, freshOf, feedOf, silenceOf, completed, scannedAs, scanFrom};
 
 // Where the receiver stands: before the first 7E or after silence; in a stretch; in one after a 7D; in one with the fault of
 // refusal 3 or 4 found.
@@ -265,7 +266,7 @@ fn complete(r: Receiver, taken: usize, store: &[u8], frame: &mut [u8]) -> Fed
 // Stores the piece's bytes up to the first special one, or as many as the store has room for, and answers how many.
 fn store_run(store: &mut [u8], len: usize, piece: &[u8]) -> usize
     requires { ⌜ (length (now store) ≡ 260) × (len ≤ 260) ⌝ }
-    ensures { λ n. ⌜ (len + n ≤ 260) × (n ≤ length (now (piece .entry))) × Runs (now (store .entry)) len (now (piece .entry)) (now (store .exit)) n ⌝ }
+    ensures { λ n. ⌜ (len + n ≤ 260) × (n ≤ length (now (piece .entry))) × ((kind : FrameKind) (taken : ℕ) → scanFrom taken (record { kind = kind; mode = Mode.Plain; len = len; store = now (store .entry) }) (now (piece .entry)) ≡ scanFrom (taken + n) (record { kind = kind; mode = Mode.Plain; len = len + n; store = now (store .exit) }) (drop n (now (piece .entry)))) ⌝ }
 {
     let mut end = 260 - len;
     if piece.len() < end {

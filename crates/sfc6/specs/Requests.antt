@@ -12,7 +12,6 @@ use Rattle.payload.specs.Field.{bigEndian}
 use Rattle.sfc6.specs.declared.Request.{Request}
 use Rattle.sfc6.specs.declared.Subcommand.{Subcommand}
 use Rattle.sfc6.specs.declared.Subcommand.the-variants as sub
-use Rattle.sfc6.specs.declared.Answer.the-variants as answer
 use Rattle.sfc6.specs.declared.Row.{Row}
 use Rattle.sfc6.specs.declared.Value.{Value}
 use Rattle.sfc6.specs.declared.Value.the-variants.{Nothing, Float, U32, Address, Baud}
@@ -41,10 +40,6 @@ valueBytes (Float x) = bigEndian 4 (toBits binary32 x)
 valueBytes (U32 n) = bigEndian 4 n
 valueBytes (Address a) = bigEndian 1 a
 valueBytes (Baud rate) = bigEndian 4 rate
-
--- a row by what a request is written from; its answer does not matter there
-abbrev pub rowOf : ℕ → Subcommand → Value → Row
-rowOf command s value = record { command = command; sub = s; value = value; answer = answer.Nothing }
 
 -- the data of a request, by its row
 unfoldable pub dataOf : Row → List ℕ

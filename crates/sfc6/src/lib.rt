@@ -13,7 +13,7 @@ ghost use lib.ListN.{length, drop};
 ghost use lib.Ieee.{binary32, toBits, ofBits};
 ghost use Rattle.sfc6.specs.declared.Request.{Request as Asked};
 ghost use Rattle.sfc6.specs.Commands.{withSub, withoutSub, row, table, requestAt, bauds, member, finite, outOfRange, badFloat, addressToAll};
-ghost use Rattle.sfc6.specs.Requests.{rowOf, checkRequest, subBytes, valueBytes, dataOf, bodyOf, frameToWrite, writeRequest};
+ghost use Rattle.sfc6.specs.Requests.{checkRequest, subBytes, valueBytes, dataOf, bodyOf, frameToWrite, writeRequest};
 ghost use Rattle.sfc6.specs.Rounds.{appendRequest, pollRound};
 ghost use Rattle.sfc6.specs.Reading.{startsWith, named, fitting, first, carried, typed, readRequest};
 ghost use Rattle.refusal.specs.Room.{overlay};
@@ -419,7 +419,7 @@ fn check_row(address: u8, asked: Row) -> Checked
 // Writes the frame of a row at the start of the lent room, and answers its length; 0 where the room is too short. It takes the row apart,
 // since a row would be handed over in memory, by pieces.
 fn lay_row(address: u8, command: u8, sub: Subcommand, value: Value, out: &mut [u8]) -> usize
-    ensures { λ r. ⌜ (writtenOf r, now (out .exit)) ≡ writeFrame (bodyOf address (rowOf command sub value)) (now (out .entry)) ⌝ }
+    ensures { λ r. ⌜ (writtenOf r, now (out .exit)) ≡ writeFrame (bodyOf address (record { command = command; sub = sub; value = value; answer = Answer.Nothing })) (now (out .entry)) ⌝ }
 {
     let asked = Row {
         command: command,

@@ -10,10 +10,10 @@ use Rattle.shdlc.specs.declared.Kind.{Kind}
 use Rattle.receiver.specs.declared.Mode.{Mode}
 use Rattle.receiver.specs.declared.Mode.the-variants.{Escaped, BadEscape, BareControl}
 use Rattle.receiver.specs.declared.Receiver.{Receiver}
-use Rattle.receiver.specs.Record.{Record, held, inStretch, numberOfMode, modeOf, Store, actOf}
+use Rattle.receiver.specs.Record.{Record, held, numberOfMode, modeOf, Store, actOf}
 use Rattle.receiver.specs.Calls.{Scan, scanFrom}
 use Rattle.receiver.proofs.Modes.{mode-back, act-escape, act-control, act-plain, act-escaped, act-bad, act-none}
-use Rattle.receiver.proofs.Turns.{turn-close, turn-open, turn-become, turn-store, turn-full, scan-next, scan-done, run-within, run-left}
+use Rattle.receiver.proofs.Turns.{inStretch, turn-close, turn-open, turn-become, turn-store, turn-full, scan-next, scan-done, run-within, run-left}
 use Rattle.receiver.proofs.scan.Statement.{statement}
 use Rattle.receiver.proofs.scan.Tie as tie
 

@@ -5,8 +5,7 @@ use mathlib.Core.Logic.{⊎-elim}
 use Prim.Native.Nat.{_≤_, _-_, _+_}
 use native.Mathlib.Omega.{arith}
 use lib.ListN.{length, length-set}
-use Rattle.receiver.specs.Calls.{Runs}
-use Rattle.receiver.proofs.Turns.{run-none, run-next}
+use Rattle.receiver.proofs.Turns.{Runs, run-none, run-next}
 use Rattle.receiver.proofs.store_run.Statement.{statement}
 use Rattle.receiver.proofs.store_run.Tie as tie
 

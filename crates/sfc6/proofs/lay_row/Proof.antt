@@ -4,7 +4,8 @@ use native.Mathlib.Omega.{arith}
 use mathlib.Core.Path.{_≡_, sym}
 use Prim.Native.Nat.{_≤_}
 use lib.Seq.{length-take-le}
-use Rattle.sfc6.specs.Requests.{rowOf}
+use Rattle.sfc6.specs.declared.Answer.the-variants as answer
+use Rattle.sfc6.specs.declared.Row.{Row}
 use Rattle.sfc6.proofs.Laid.{body-short}
 use Rattle.sfc6.proofs.Writing.{row-laid}
 use Rattle.sfc6.proofs.lay_row.Statement.{statement}
@@ -13,7 +14,8 @@ use Rattle.sfc6.proofs.lay_row.Tie as tie
 prefix : tie.Need-array-share-prefix-body
 prefix c =
     let a = c .before .before .before .before .before .args in
-    omega (arith, body-short (a .address) (rowOf (a .command) (a .sub) (a .value)), c .before .put-body)
+    let asked : Row = record { command = a .command; sub = a .sub; value = a .value; answer = answer.Nothing } in
+    omega (arith, body-short (a .address) asked, c .before .put-body)
 
 returns : tie.Need-returns
 returns c =
