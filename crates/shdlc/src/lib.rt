@@ -11,7 +11,7 @@ ghost use Rattle.refusal.specs.Room.{overlay};
 ghost use Rattle.shdlc.specs.Checksum.{sum, checksumOf};
 ghost use Rattle.shdlc.specs.Stuffing.{stuffByte, stuff};
 ghost use Rattle.shdlc.specs.Body.{shortest, longest, lengthPlace, checkBody};
-ghost use Rattle.shdlc.specs.Frame.{frameOf, writeFrame};
+ghost use Rattle.shdlc.specs.Frame.{putAt, frameOf, writeFrame};
 ghost use Rattle.shdlc.specs.Paper.{paperChecked, paperWritten, writtenOf};
 
 // Which frames are expected: requests (MOSI) or replies (MISO).
@@ -144,6 +144,19 @@ fn put_byte(out: &mut [u8], place: usize, b: u8) -> usize
     }
     out[place] = b;
     place + 1
+}
+
+// The same at any place of any room: where fewer than two bytes are left there, nothing is written and the place is answered.
+pub fn put_at(out: &mut [u8], place: usize, b: u8) -> usize
+    ensures { λ r. ⌜ (r, now (out .exit)) ≡ putAt (now (out .entry)) place b ⌝ }
+{
+    if out.len() < 2 {
+        return place;
+    }
+    if out.len() - 2 < place {
+        return place;
+    }
+    put_byte(out, place, b)
 }
 
 // Where the next byte goes, and the sum of those before it, modulo 256.
