@@ -6,16 +6,13 @@ use borrow.Author.Tests.{lt-ltb, le-ltb}
 use Rattle.refusal.specs.Refusals.{number, numberOf, paper, Answered, served, refused}
 use Rattle.refusal.specs.declared.Refusal.{Refusal}
 use Rattle.sfc6.specs.declared.Request.{Request}
-use Rattle.sfc6.specs.declared.Row.{Row}
-use Rattle.sfc6.specs.declared.Value.{Value}
-use Rattle.sfc6.specs.Commands.{row, table, requestAt}
+use Rattle.sfc6.specs.Commands.{table, requestAt, placeOf, valueOf}
 use Rattle.sfc6.specs.Requests.{writeRequest}
 use Rattle.sfc6.specs.Rounds.{appendRequest}
 use Rattle.mfc.specs.declared.answers.MfcWritten.{MfcWritten}
 use Rattle.mfc.specs.declared.answers.MfcRequest.{MfcRequest}
 use Rattle.mfc.specs.Answers.{written}
-use Rattle.mfc.specs.Requests.{placeOf, valueIn, valueOf, request, writeNumbered, appendNumbered}
-use Rattle.mfc.proofs.Told.{told}
+use Rattle.mfc.specs.Requests.{request, writeNumbered, appendNumbered}
 use Rattle.mfc.proofs.Structs.{answered}
 
 -- each number of the table is that of its request, whatever the value
@@ -51,11 +48,6 @@ module _ (buffer : List ℕ) (start address n v : ℕ) where
       → (result, after) ≡ appendNumbered buffer start address n v
   unfolding appendNumbered
   append-named h f w r = rw (le-ltb 20 n h) (answered written r (w ∙ ap (λ (q : Request). appendRequest buffer start address q) f))
-
--- the value of a request by its row
-pub value-told : (q : Request) {r : Row} {is : Value} {n : ℕ} → r ≡ row q → r .value ≡ is → n ≡ valueIn is → n ≡ valueOf q
-unfolding valueOf
-value-told q f e p = told valueIn e p ∙ ap (λ (x : Row). valueIn (x .value)) f
 
 pub read-served : (address : ℕ) (q : Request) {n v : ℕ} → n ≡ placeOf q → v ≡ valueOf q
     → _≡_ {A = MfcRequest} (record { refusal = 0; address = address; request = n; value = v }) (request (served (address, q)))

@@ -6,12 +6,12 @@ use crate::answers::of_written;
 use refusal::Refusal;
 use sfc6::ReadRequest;
 use sfc6::Request;
-use sfc6::Value;
 ghost use mathlib.Core.Path.{_≡_};
 ghost use Rattle.shdlc.specs.Checksum.{checksumOf};
 ghost use Rattle.sfc6.specs.Paper.{paperRead};
 ghost use Rattle.sfc6.specs.Reading.{readRequest};
-ghost use Rattle.mfc.specs.Requests.{placeOf, valueOf, request, writeNumbered, appendNumbered};
+ghost use Rattle.sfc6.specs.Commands.{placeOf};
+ghost use Rattle.mfc.specs.Requests.{request, writeNumbered, appendNumbered};
 
 // The number of the last request.
 pub(crate) const LAST_REQUEST: u8 = 20;
@@ -51,7 +51,7 @@ pub extern "C" fn mfc_write_request(
     if LAST_REQUEST < request {
         return not_written(Refusal::UnknownCommand);
     }
-    of_written(sfc6::write_request(address, sfc6::request_of(place(request), value), out))
+    of_written(sfc6::write_numbered(address, place(request), value, out))
 }
 
 // Writes the frame of a request into a buffer from start on, as one frame of a polling round; all else in the buffer stays. The length
@@ -81,44 +81,7 @@ pub extern "C" fn mfc_write_request_at(
 fn number_of(request: Request) -> u8
     ensures { λ r. ⌜ r ≡ placeOf request ⌝ }
 {
-    match request {
-        Request::GetSetpoint => 0,
-        Request::SetSetpoint(_) => 1,
-        Request::MeasuredValue => 2,
-        Request::GetGain => 3,
-        Request::SetGain(_) => 4,
-        Request::GetInitStep => 5,
-        Request::SetInitStep(_) => 6,
-        Request::RawFlow => 7,
-        Request::RawConductivity => 8,
-        Request::Temperature => 9,
-        Request::NumberOfCalibrations => 10,
-        Request::Validity(_) => 11,
-        Request::FullScale => 12,
-        Request::GetCalibration => 13,
-        Request::SetCalibration(_) => 14,
-        Request::VolatileCalibration(_) => 15,
-        Request::GetAddress => 16,
-        Request::SetAddress(_) => 17,
-        Request::GetBaud => 18,
-        Request::SetBaud(_) => 19,
-        Request::ProductType => 20,
-    }
-}
-
-// The value that a request carries, a float by its bits.
-fn value_of(request: Request) -> u32
-    ensures { λ r. ⌜ r ≡ valueOf request ⌝ }
-{
-    let row = sfc6::row_of(request);
-    let value = row.value;
-    match value {
-        Value::Nothing => 0,
-        Value::Float(x) => sfc6::bits_of(x),
-        Value::U32(n) => n,
-        Value::Address(a) => wide(a),
-        Value::Baud(rate) => rate,
-    }
+    sfc6::place_of(request) as u8
 }
 
 fn of_read(r: ReadRequest) -> MfcRequest
@@ -129,7 +92,7 @@ fn of_read(r: ReadRequest) -> MfcRequest
             refusal: 0,
             address: address,
             request: number_of(request),
-            value: value_of(request),
+            value: sfc6::value_of(request),
         },
         ReadRequest::Refused(why) => MfcRequest {
             refusal: refusal::number(why),

@@ -6,11 +6,15 @@ use native.Mathlib.Omega.{arith}
 use borrow.Author.Tests.{lt-ltb, le-ltb, le-leb, lt-leb}
 use lib.ListN.{length, take, drop, length-append}
 use lib.Seq.{take-at, drop-at, length-take-le}
-use Rattle.refusal.specs.Refusals.{number, served, refused}
+use Rattle.refusal.specs.declared.Refusal.{Refusal}
+use Rattle.refusal.specs.Refusals.{number, Answered, served, refused}
+use Rattle.refusal.proofs.Order.{refused-not-served}
 use Rattle.payload.specs.declared.fields.Width.{Width}
+use Rattle.payload.specs.declared.fields.Placed.{Placed}
+use Rattle.payload.specs.declared.fields.Placed.the-variants.{Next, Refused}
 use Rattle.refusal.specs.Room.{overlay}
 use Rattle.refusal.proofs.Room.{overlay-then}
-use Rattle.payload.specs.Field.{big, bigEndian, bytesIn, fieldAt, putAt}
+use Rattle.payload.specs.Field.{big, bigEndian, bytesIn, fieldAt, putAt, paperPlaced}
 use Rattle.payload.proofs.Big.{length-big-endian, big-of-big-endian, big-endian-split}
 
 -- what holds at a width that is known
@@ -49,6 +53,20 @@ module _ (room : List ℕ) (place width n : ℕ) where
   pub put-served-as : {size : ℕ} {after : List ℕ} → n < 256 ^ width → place + width ≤ length room → size ≡ width
       → after ≡ overlay room place (bigEndian width n) → putAt room place width n ≡ (served (place + size), after)
   put-served-as f h e g = rw (e, g) (put-served f h)
+
+-- a number that fits its bytes is put into room that is there
+module _ (room : List ℕ) (place width n : ℕ) (small : n < 256 ^ width) (there : place + width ≤ length room) (p : Placed) (w : List ℕ)
+    (is : (paperPlaced p, w) ≡ putAt room place width n) where
+  put : _≡_ {A = Answered ℕ × List ℕ} (paperPlaced p, w) (served (place + width), overlay room place (bigEndian width n))
+  put = is ∙ put-served room place width n small there
+
+  pub put-there : (next : ℕ) → p ≡ Next next → (next ≡ place + width) × (w ≡ overlay room place (bigEndian width n))
+  put-there next e =
+      let f : served next ≡ served (place + width) = sym (ap paperPlaced e) ∙ ap (λ (o : Answered ℕ × List ℕ). o .0) put in
+      (cc, ap (λ (o : Answered ℕ × List ℕ). o .1) put)
+
+  pub put-not : {A : Type 0} (why : Refusal) → p ≡ Refused why → A
+  put-not why e = absurd (refused-not-served (sym (ap paperPlaced e) ∙ ap (λ (o : Answered ℕ × List ℕ). o .0) put))
 
 -- a number written in two parts
 pub put-halves : (room : List ℕ) (place a b n : ℕ) {first last : List ℕ} → place + (a + b) ≤ length room

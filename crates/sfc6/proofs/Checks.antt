@@ -2,12 +2,12 @@
 use mathlib.Core.Path.{_≡_, refl, sym}
 use mathlib.Core.Bool.{Bool, true, false}
 use Prim.Native.Nat.{ℕ}
-use mathlib.Core.List.{[], _∷_}
-use Rattle.refusal.specs.Refusals.{number, served, refused, inOrder}
+use mathlib.Core.List.{List, [], _∷_, _++_}
+use Rattle.refusal.specs.Refusals.{Numbered, number, served, refused, inOrder}
 use Rattle.sfc6.specs.declared.Request.{Request}
 use Rattle.sfc6.specs.declared.Value.{Value}
 use Rattle.sfc6.specs.Commands.{row, outOfRange, badFloat, addressToAll}
-use Rattle.sfc6.specs.Requests.{checkRequest}
+use Rattle.sfc6.specs.Requests.{requestChecks, checkRequest}
 use Rattle.sfc6.proofs.Order.{never}
 
 -- of any request that carries the value
@@ -30,13 +30,20 @@ module _ (address : ℕ) (value : Value) {x : Bool} (range : x ≡ outOfRange va
       unfolding checkRequest
       passed h request is = rw (is, ← range, in-range, ← float, good-float, ← all, h)
 
--- a request that passes carries no bad float
-pub passed-float : (address : ℕ) (request : Request) {a : ℕ × Request} → checkRequest address request ≡ served a → badFloat (row request .value) ≡ false
-unfolding checkRequest
-passed-float address request {a} h = go (outOfRange (row request .value)) (badFloat (row request .value)) h
+-- what checks start with the request's own, and pass, carries a value in its range and no bad float
+pub passed-value : {A : Type 0} (address : ℕ) (request : Request) (more : List (Bool × Numbered)) (a : A) {b : A}
+    → inOrder (requestChecks address request ++ more) a ≡ served b
+    → (outOfRange (row request .value) ≡ false) × (badFloat (row request .value) ≡ false)
+passed-value {A} address request more a {b} h = go (outOfRange (row request .value)) (badFloat (row request .value)) h
   where
-    go : (x y : Bool) → inOrder ((x, number 12) ∷ (y, number 13) ∷ (addressToAll address (row request .value), number 10) ∷ []) (address, request) ≡ served a
-        → y ≡ false
+    go : (x y : Bool)
+        → inOrder ((x, number 12) ∷ (y, number 13) ∷ (addressToAll address (row request .value), number 10) ∷ more) a ≡ served b
+        → (x ≡ false) × (y ≡ false)
     go true y h = never (sym h)
     go false true h = never (sym h)
-    go false false h = refl
+    go false false h = (refl, refl)
+
+pub passed-request : (address : ℕ) (request : Request) {a : ℕ × Request} → checkRequest address request ≡ served a
+    → (outOfRange (row request .value) ≡ false) × (badFloat (row request .value) ≡ false)
+unfolding checkRequest
+passed-request address request h = passed-value address request [] (address, request) h

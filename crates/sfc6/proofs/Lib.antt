@@ -13,3 +13,4 @@ pub mod Rewritten
 pub mod RoundRead
 pub mod ReadBack
 pub mod OneToOne
+pub mod Plain

@@ -5,12 +5,12 @@ use mathlib.Core.List.{List, [], _∷_, _++_}
 use mathlib.Core.Option.{Option, none, some}
 use Prim.Native.Nat.{ℕ, zero, suc, _+_, _-_, _^_, min, _≤_, _<_}
 use native.Mathlib.Omega.{arith}
-use lib.Dec.{T, eqb}
+use lib.Dec.{T, eqb, ltb}
 use lib.ListN.{length, take, drop, getD, length-append, length-take, length-drop}
 use lib.Seq.{getD-drop}
 use lib.Ieee.{Float, nan, inf, fin, binary32, isNan, toBits, ofBits}
 use lib.Ieee.Bits.{toBits-ofBits}
-use borrow.Author.Tests.{eqb-true}
+use borrow.Author.Tests.{eqb-true, ltb-false}
 use Rattle.refusal.specs.Refusals.{Answered, number, served}
 use Rattle.refusal.specs.Room.{emit}
 use Rattle.shdlc.specs.declared.Kind.the-variants as kind
@@ -21,15 +21,19 @@ use Rattle.shdlc.proofs.Body.{passes, checked-body}
 use Rattle.payload.specs.Field.{big, bigEndian, Bytes}
 use Rattle.payload.proofs.Big.{big-lt, big-endian-of-big}
 use Rattle.sfc6.specs.declared.Request.{Request}
+use Rattle.sfc6.specs.declared.Request.the-variants.{ProductType}
+use Rattle.sfc6.specs.declared.Value.{Value}
+use Rattle.sfc6.specs.declared.Value.the-variants as value
 use Rattle.sfc6.specs.declared.Subcommand.{Subcommand}
 use Rattle.sfc6.specs.declared.Subcommand.the-variants as sub
 use Rattle.sfc6.specs.declared.Row.{Row}
-use Rattle.sfc6.specs.Commands.{row, table, finite, badFloat}
-use Rattle.sfc6.specs.Requests.{requestChecks, checkRequest, subBytes, valueBytes, dataOf, bodyOf, lay, writeRequest}
+use Rattle.sfc6.specs.Commands.{row, table, requestAt, finite, outOfRange, badFloat}
+use Rattle.sfc6.specs.Requests.{requestChecks, checkRequest, subBytes, valueBytes, dataOf, bodyOf, bodyAt, lay, writeRequest}
 use Rattle.sfc6.specs.Reading.{startsWith, named, fitting, first, carried, foundOr, typed, payloadOf, andThen, readRequest}
 use Rattle.sfc6.proofs.Order.{never, serves-it, and-then-served}
-use Rattle.sfc6.proofs.Checks.{passed-float}
+use Rattle.sfc6.proofs.Checks.{passed-request}
 use Rattle.sfc6.proofs.Reading.{first-passes, both, fits-length}
+use Rattle.sfc6.proofs.Table.{request-within}
 use Rattle.sfc6.proofs.Written.{to-write}
 
 -- a float's bits that are finite come back
@@ -43,14 +47,16 @@ float-bytes : (n : ℕ) → n < 2 ^ 32 → not (finite (toBits binary32 (ofBits 
     → bigEndian 4 (toBits binary32 (ofBits binary32 n)) ≡ bigEndian 4 n
 float-bytes n h g = ap (bigEndian 4) (toBits-ofBits binary32 n h (not-nan (ofBits binary32 n) g))
 
-address-bytes : (n : ℕ) → n < 2 ^ 8 → bigEndian 1 (min n 255) ≡ bigEndian 1 n
-address-bytes n h = ap (bigEndian 1) (omega arith)
+address-bytes : (n : ℕ) → ltb 254 (min n 255) ≡ false → bigEndian 1 (min n 255) ≡ bigEndian 1 n
+address-bytes n h =
+    let e : min n 255 ≡ n = omega (arith, ltb-false 254 (min n 255) h) in
+    ap (bigEndian 1) e
 
 -- only the value of a row depends on the number that the request carries, and its bytes are those of the number
 pub record Carries (request : ℕ → Request) : Type 0 where
   pub command : (n : ℕ) → row (request n) .command ≡ row (request 0) .command
   pub sub : (n : ℕ) → row (request n) .sub ≡ row (request 0) .sub
-  pub value : (n : ℕ) → n < 256 ^ length (valueBytes (row (request 0) .value)) → badFloat (row (request n) .value) ≡ false
+  pub value : (n : ℕ) → n < 2 ^ 32 → outOfRange (row (request n) .value) ≡ false → badFloat (row (request n) .value) ≡ false
       → valueBytes (row (request n) .value) ≡ bigEndian (length (valueBytes (row (request 0) .value))) n
 
 infixr 5 _also_
@@ -61,28 +67,37 @@ data Each : List (ℕ → Request) → Type 0 where
 each : Each table
 unfolding row bigEndian
 each =
-    record { command = λ n. refl; sub = λ n. refl; value = λ n h g. refl }
-    also record { command = λ n. refl; sub = λ n. refl; value = float-bytes }
-    also record { command = λ n. refl; sub = λ n. refl; value = λ n h g. refl }
-    also record { command = λ n. refl; sub = λ n. refl; value = λ n h g. refl }
-    also record { command = λ n. refl; sub = λ n. refl; value = float-bytes }
-    also record { command = λ n. refl; sub = λ n. refl; value = λ n h g. refl }
-    also record { command = λ n. refl; sub = λ n. refl; value = float-bytes }
-    also record { command = λ n. refl; sub = λ n. refl; value = λ n h g. refl }
-    also record { command = λ n. refl; sub = λ n. refl; value = λ n h g. refl }
-    also record { command = λ n. refl; sub = λ n. refl; value = λ n h g. refl }
-    also record { command = λ n. refl; sub = λ n. refl; value = λ n h g. refl }
-    also record { command = λ n. refl; sub = λ n. refl; value = λ n h g. refl }
-    also record { command = λ n. refl; sub = λ n. refl; value = λ n h g. refl }
-    also record { command = λ n. refl; sub = λ n. refl; value = λ n h g. refl }
-    also record { command = λ n. refl; sub = λ n. refl; value = λ n h g. refl }
-    also record { command = λ n. refl; sub = λ n. refl; value = λ n h g. refl }
-    also record { command = λ n. refl; sub = λ n. refl; value = λ n h g. refl }
-    also record { command = λ n. refl; sub = λ n. refl; value = λ n h g. address-bytes n h }
-    also record { command = λ n. refl; sub = λ n. refl; value = λ n h g. refl }
-    also record { command = λ n. refl; sub = λ n. refl; value = λ n h g. refl }
-    also record { command = λ n. refl; sub = λ n. refl; value = λ n h g. refl }
+    record { command = λ n. refl; sub = λ n. refl; value = λ n h r g. refl }
+    also record { command = λ n. refl; sub = λ n. refl; value = λ n h r g. float-bytes n h g }
+    also record { command = λ n. refl; sub = λ n. refl; value = λ n h r g. refl }
+    also record { command = λ n. refl; sub = λ n. refl; value = λ n h r g. refl }
+    also record { command = λ n. refl; sub = λ n. refl; value = λ n h r g. float-bytes n h g }
+    also record { command = λ n. refl; sub = λ n. refl; value = λ n h r g. refl }
+    also record { command = λ n. refl; sub = λ n. refl; value = λ n h r g. float-bytes n h g }
+    also record { command = λ n. refl; sub = λ n. refl; value = λ n h r g. refl }
+    also record { command = λ n. refl; sub = λ n. refl; value = λ n h r g. refl }
+    also record { command = λ n. refl; sub = λ n. refl; value = λ n h r g. refl }
+    also record { command = λ n. refl; sub = λ n. refl; value = λ n h r g. refl }
+    also record { command = λ n. refl; sub = λ n. refl; value = λ n h r g. refl }
+    also record { command = λ n. refl; sub = λ n. refl; value = λ n h r g. refl }
+    also record { command = λ n. refl; sub = λ n. refl; value = λ n h r g. refl }
+    also record { command = λ n. refl; sub = λ n. refl; value = λ n h r g. refl }
+    also record { command = λ n. refl; sub = λ n. refl; value = λ n h r g. refl }
+    also record { command = λ n. refl; sub = λ n. refl; value = λ n h r g. refl }
+    also record { command = λ n. refl; sub = λ n. refl; value = λ n h r g. address-bytes n r }
+    also record { command = λ n. refl; sub = λ n. refl; value = λ n h r g. refl }
+    also record { command = λ n. refl; sub = λ n. refl; value = λ n h r g. refl }
+    also record { command = λ n. refl; sub = λ n. refl; value = λ n h r g. refl }
     also done
+
+-- the request at a place
+each-at : (requests : List (ℕ → Request)) → Each requests → (k : ℕ) (other : ℕ → Request) → k < length requests → Carries (getD requests k other)
+each-at [] done k other h = absurd (omega arith)
+each-at (q ∷ requests) (this also es) zero other h = this
+each-at (q ∷ requests) (this also es) (suc k) other h = each-at requests es k other (omega arith)
+
+pub carries-at : (place : ℕ) → place ≤ 20 → Carries (requestAt place)
+carries-at place h = each-at table each place (λ n. ProductType) (omega arith)
 
 found-carries : (test : Row → Bool) (requests : List (ℕ → Request)) → Each requests → (request : ℕ → Request) → first test requests ≡ some request
     → Carries request
@@ -123,11 +138,21 @@ bytes-take (suc n) [] h i = h i
 bytes-take (suc n) (x ∷ l) h zero = h 0
 bytes-take (suc n) (x ∷ l) h (suc i) = bytes-take n l (λ j. h (suc j)) i
 
+-- the number in a value's bytes is that of a u32
+value-fits : (v : Value) (n : ℕ) → n < 256 ^ length (valueBytes v) → n < 2 ^ 32
+unfolding bigEndian
+value-fits value.Nothing n h = omega arith
+value-fits (value.Float x) n h = omega arith
+value-fits (value.U32 m) n h = omega arith
+value-fits (value.Address a) n h = omega arith
+value-fits (value.Baud rate) n h = omega arith
+
 -- data that are read and written again
 data-back : (command : ℕ) (payload : List ℕ) (request : Request) → Bytes payload → typed command payload ≡ served request
-    → badFloat (row request .value) ≡ false → (row request .command ≡ command) × (dataOf (row request) ≡ payload)
+    → (outOfRange (row request .value) ≡ false) × (badFloat (row request .value) ≡ false)
+    → (row request .command ≡ command) × (dataOf (row request) ≡ payload)
 unfolding dataOf fitting named carried
-data-back command payload request bytes h float =
+data-back command payload request bytes h passed =
     let at-table = typed-found command payload request h in
     let f = at-table .0 in
     let c = found-carries (fitting command payload) table each f (at-table .1) in
@@ -141,9 +166,10 @@ data-back command payload request bytes h float =
     omega (arith, length-drop (length (subBytes (r .sub))) payload, fits-length command payload r fits, length-append (subBytes (r .sub)) (valueBytes (r .value))) in
     let rest-bytes = bytes-drop (length (subBytes (r .sub))) payload bytes in
     let small : n < 256 ^ length (valueBytes (r .value)) = subst (λ (k : ℕ). n < 256 ^ k) width (big-lt rest rest-bytes) in
-    let good : badFloat (row (f n) .value) ≡ false = ap (λ (q : Request). badFloat (row q .value)) (at-table .2) ∙ float in
+    let range : outOfRange (row (f n) .value) ≡ false = ap (λ (q : Request). outOfRange (row q .value)) (at-table .2) ∙ passed .0 in
+    let good : badFloat (row (f n) .value) ≡ false = ap (λ (q : Request). badFloat (row q .value)) (at-table .2) ∙ passed .1 in
     let value : valueBytes (row (f n) .value) ≡ rest =
-    c .value n small good ∙ ap (λ (k : ℕ). bigEndian k n) (sym width) ∙ big-endian-of-big rest rest-bytes in (
+    c .value n (value-fits (r .value) n small) range good ∙ ap (λ (k : ℕ). bigEndian k n) (sym width) ∙ big-endian-of-big rest rest-bytes in (
       ap (λ (q : Request). row q .command) (sym (at-table .2)) ∙ c .command n ∙ sym (eqb-true command (r .command) (both (eqb command (r .command)) _ name .0)),
       ap (λ (q : Request). dataOf (row q)) (sym (at-table .2)) ∙ rw (c .sub n, value) split,
     )
@@ -199,8 +225,7 @@ module _ (body : List ℕ) (address : ℕ) (request : Request) where
   unfolding bodyOf
   body-back bytes r =
       let p = passes kind.Request body (r .checked) in
-      let float = passed-float address request (r .request-passed) in
-      let d = data-back (getD body 1 0) (payloadOf body) request (bytes-take (length body - 4) (drop 3 body) (bytes-drop 3 body bytes)) (r .data-read) float in
+      let d = data-back (getD body 1 0) (payloadOf body) request (bytes-take (length body - 4) (drop 3 body) (bytes-drop 3 body bytes)) (r .data-read) (passed-request address request (r .request-passed)) in
       let size : length (payloadOf body) ≡ getD body 2 0 =
       omega (arith, length-take (length body - 4) (drop 3 body), length-drop 3 body, p .length-right, p .least) in
       let same : bodyOf address (row request) ≡ take (length body - 1) body =
@@ -214,3 +239,17 @@ module _ (body : List ℕ) (address : ℕ) (request : Request) where
       let r = read-parts h in
       ap (λ (a : Answered (List ℕ)). lay a room) (to-write address request (r .request-passed))
       ∙ ap (λ (b : List ℕ). emit (0x7E ∷ stuff b ++ (0x7E ∷ [])) room) (body-back bytes r)
+
+-- the body at a place past the table or in it, of a request that passes its checks
+pub numbered-body : (address place n : ℕ) {p : ℕ} {asked : Row} → p ≡ min place 20 → asked ≡ row (requestAt place n) → n < 2 ^ 32
+    → (outOfRange (row (requestAt place n) .value) ≡ false) × (badFloat (row (requestAt place n) .value) ≡ false)
+    → bodyAt address p n ≡ bodyOf address asked
+unfolding bodyOf dataOf
+numbered-body address place n {p} e f small passed =
+    let q = requestAt p in
+    let in-table : p ≤ 20 = omega arith in
+    let c = carries-at p in-table in
+    let same : row (q n) ≡ row (requestAt place n) = rw e (ap row (request-within place n)) in
+    let range = ap (λ (r : Row). outOfRange (r .value)) same ∙ passed .0 in
+    let float = ap (λ (r : Row). badFloat (r .value)) same ∙ passed .1 in
+    rw (f, ← same, c .command n, c .sub n, c .value n small range float)

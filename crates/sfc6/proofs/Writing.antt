@@ -2,26 +2,28 @@
 use mathlib.Core.Path.{_≡_, refl, sym, ap, _∙_}
 use mathlib.Core.Bool.{Bool, true, false, cond}
 use mathlib.Core.List.{List, [], _∷_, _++_, append-nil}
-use Prim.Native.Nat.{ℕ, _-_, _≤_, _<_}
+use Prim.Native.Nat.{ℕ, _-_, _≤_, _<_, min}
 use native.Mathlib.Omega.{arith}
-use borrow.Author.Tests.{lt-ltb, le-ltb, ltb-false}
+use borrow.Author.Tests.{lt-ltb, le-ltb, ltb-true, ltb-false, ne-eqb}
 use lib.Dec.{ltb}
 use lib.ListN.{length, take, drop, length-drop, drop-of-length-le, take-append-drop}
 use lib.Seq.{take-all, take-length, drop-length}
 use Rattle.refusal.specs.declared.Refusal.{Refusal}
 use Rattle.refusal.specs.Refusals.{Numbered, Answered, number, served, refused, paper, inOrder}
 use Rattle.refusal.specs.Room.{overlay, emit}
-use Rattle.refusal.proofs.Room.{take-overlay}
+use Rattle.refusal.proofs.Room.{take-overlay, emit-served, emit-refused}
 use Rattle.shdlc.specs.declared.Checked.{Checked}
 use Rattle.shdlc.specs.declared.Checked.the-variants.{Good, Refused}
 use Rattle.shdlc.specs.Frame.{frameOf, writeFrame}
 use Rattle.shdlc.specs.Paper.{writtenOf}
+use Rattle.shdlc.proofs.Frame.{frame-length}
 use Rattle.sfc6.specs.declared.Request.{Request}
 use Rattle.sfc6.specs.declared.Row.{Row}
-use Rattle.sfc6.specs.Commands.{row}
+use Rattle.sfc6.specs.Commands.{row, outOfRange, badFloat}
 use Rattle.sfc6.specs.Requests.{requestChecks, checkRequest, dataOf, bodyOf, frameToWrite, writeRequest}
 use Rattle.sfc6.specs.Rounds.{appendRequest}
 use Rattle.sfc6.specs.Paper.{paperPassed}
+use Rattle.sfc6.proofs.Checks.{passed-value}
 use Rattle.sfc6.proofs.Order.{never, first-refuses, then-more}
 
 -- the test of the data's length
@@ -56,11 +58,25 @@ module _ (address : ℕ) (r : Row) (c : Checked)
     pub row-good : size ≤ 255 → (request : Request) → row request ≡ r → served (frameOf (bodyOf address r)) ≡ frameToWrite address request
     row-good h request at-row = rw (rest request at-row good, ← counted, le-ltb _ _ h)
 
--- the row's bytes, laid down and framed
-pub row-laid : (address : ℕ) (r : Row) (end : ℕ) (zeros w room : List ℕ) {o : Answered ℕ × List ℕ}
-    → (end ≡ length (bodyOf address r)) × (w ≡ overlay zeros 0 (bodyOf address r))
-    → o ≡ writeFrame (take end w) room → o ≡ writeFrame (bodyOf address r) room
-row-laid address r end zeros w room f g = g ∙ rw (f .0, f .1, take-overlay)
+-- a frame that stands at the start of a room that holds it, one that is copied there, and one that does not fit
+module _ (body room : List ℕ) (n : ℕ) (long : n ≡ length (frameOf body)) where
+  pub frame-stands : (after : List ℕ) → n ≤ length room → after ≡ overlay room 0 (frameOf body)
+      → _≡_ {A = Answered ℕ × List ℕ} (writtenOf n, after) (writeFrame body room)
+  unfolding writtenOf
+  frame-stands after h e =
+      let some : (n ≡ 0 → ⊥) = λ z. omega (arith, frame-length body) in
+      let fits : length (frameOf body) ≤ length room = omega arith in
+      rw (ne-eqb n 0 some, emit-served (frameOf body) room fits, long, e)
+
+  pub frame-copied : (zeros spare after : List ℕ) → n ≤ length room → spare ≡ overlay zeros 0 (frameOf body)
+      → after ≡ overlay room 0 (take n spare) → _≡_ {A = Answered ℕ × List ℕ} (writtenOf n, after) (writeFrame body room)
+  frame-copied zeros spare after h e f = frame-stands after h (f ∙ rw (e, long, take-overlay))
+
+  pub frame-long : length room < n → _≡_ {A = Answered ℕ × List ℕ} (writtenOf 0, room) (writeFrame body room)
+  unfolding writtenOf
+  frame-long h =
+      let short : length room < length (frameOf body) = omega arith in
+      rw (emit-refused (frameOf body) room short)
 
 -- a frame into a room
 module _ (address : ℕ) (request : Request) (room frame : List ℕ) (c : Checked) (is : paperPassed frame c ≡ frameToWrite address request) where
@@ -72,6 +88,11 @@ module _ (address : ℕ) (request : Request) (room frame : List ℕ) (c : Checke
       → (o, w) ≡ writeRequest address request room
   unfolding writeRequest
   write-laid good n e f = rw (← is, good, e) f
+
+  -- what was written passed its checks
+  pub written-passed : c ≡ Good → (outOfRange (row request .value) ≡ false) × (badFloat (row request .value) ≡ false)
+  unfolding frameToWrite
+  written-passed good = passed-value address request (five (row request)) (frameOf (bodyOf address (row request))) (sym is ∙ ap (paperPassed frame) good)
 
 -- bytes that were laid stand at the room's start, and fit
 pub emit-laid : (bytes room : List ℕ) (n : ℕ) → emit bytes room .0 ≡ served n
@@ -98,11 +119,18 @@ module _ (buffer : List ℕ) (start end : ℕ) where
   abbrev pub Starts : Type 0
   Starts = (end ≤ length buffer) × (take end buffer ≡ take start buffer) × (drop end buffer ≡ drop start buffer)
 
-  pub starts-at : start < length buffer → end ≡ start → Starts
-  starts-at h e = rw e (omega arith, refl, refl)
-
-  pub starts-past : length buffer ≤ start → end ≡ length buffer → Starts
-  starts-past h e = rw e (omega arith, take-length buffer ∙ sym (take-all start buffer h), drop-length buffer ∙ sym (drop-of-length-le buffer h))
+  pub starts : end ≡ min start (length buffer) → Starts
+  starts e = go (ltb start (length buffer)) refl
+    where
+      go : (t : Bool) → ltb start (length buffer) ≡ t → Starts
+      go true h =
+          let before : start < length buffer = ltb-true start (length buffer) h in
+          let is : end ≡ start = omega arith in
+          rw is (omega arith, refl, refl)
+      go false h =
+          let past : length buffer ≤ start = ltb-false start (length buffer) h in
+          let is : end ≡ length buffer = omega arith in
+          rw is (omega arith, take-length buffer ∙ sym (take-all start buffer past), drop-length buffer ∙ sym (drop-of-length-le buffer past))
 
   pub appended : (address : ℕ) (request : Request) {r : Answered ℕ} {w : List ℕ} → Starts
       → (r, w) ≡ writeRequest address request (take (length buffer - end) (drop end buffer))

@@ -77,6 +77,41 @@ table =
 abbrev pub requestAt : ℕ → ℕ → Request
 requestAt place = getD table place (λ n. ProductType)
 
+-- the number of a request in this order
+unfoldable pub placeOf : Request → ℕ
+placeOf GetSetpoint = 0
+placeOf (SetSetpoint x) = 1
+placeOf MeasuredValue = 2
+placeOf GetGain = 3
+placeOf (SetGain x) = 4
+placeOf GetInitStep = 5
+placeOf (SetInitStep x) = 6
+placeOf RawFlow = 7
+placeOf RawConductivity = 8
+placeOf Temperature = 9
+placeOf NumberOfCalibrations = 10
+placeOf (Validity index) = 11
+placeOf FullScale = 12
+placeOf GetCalibration = 13
+placeOf (SetCalibration n) = 14
+placeOf (VolatileCalibration n) = 15
+placeOf GetAddress = 16
+placeOf (SetAddress a) = 17
+placeOf GetBaud = 18
+placeOf (SetBaud rate) = 19
+placeOf ProductType = 20
+
+-- the number that a request carries, a float by its bits; 0 where it carries none
+abbrev pub valueIn : Value → ℕ
+valueIn Nothing = 0
+valueIn (Float x) = toBits binary32 x
+valueIn (U32 n) = n
+valueIn (Address a) = a
+valueIn (Baud rate) = rate
+
+unfoldable pub valueOf : Request → ℕ
+valueOf q = valueIn (row q .value)
+
 -- "Baud is one of five constants"
 abbrev pub bauds : List ℕ
 bauds = 9600 ∷ 19200 ∷ 38400 ∷ 57600 ∷ 115200 ∷ []

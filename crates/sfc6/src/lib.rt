@@ -1,22 +1,25 @@
 // The typed commands of the SFC6 family: the table, and requests written and read.
 use payload::Field;
-use payload::Placed;
 use payload::Width;
 use refusal::Refusal;
 use shdlc::Checked;
 use shdlc::Kind;
 use shdlc::Written;
 ghost use mathlib.Core.Path.{_≡_};
-ghost use Prim.Native.Nat.{_+_, _^_, _≤_, _<_, min};
+ghost use mathlib.Core.List.{[], _∷_, _++_};
+ghost use Prim.Native.Nat.{_+_, _-_, _/_, _%_, _≤_, _<_, min};
 ghost use mathlib.Core.Bool.{cond};
-ghost use lib.ListN.{length, drop};
+ghost use lib.Dec.{ltb};
+ghost use lib.ListN.{length, take, drop};
 ghost use lib.Ieee.{binary32, toBits, ofBits};
 ghost use Rattle.sfc6.specs.declared.Request.{Request as Asked};
-ghost use Rattle.sfc6.specs.Commands.{withSub, withoutSub, row, table, requestAt, bauds, member, finite, outOfRange, badFloat, addressToAll};
-ghost use Rattle.sfc6.specs.Requests.{checkRequest, subBytes, valueBytes, dataOf, bodyOf, frameToWrite, writeRequest};
+ghost use Rattle.sfc6.specs.Commands.{withSub, withoutSub, row, table, requestAt, placeOf, valueOf, bauds, member, finite, outOfRange, badFloat, addressToAll};
+ghost use Rattle.sfc6.specs.Requests.{checkRequest, subBytes, valueBytes, dataOf, bodyWith, bodyOf, bodyAt, Sized, frameToWrite, writeRequest};
 ghost use Rattle.sfc6.specs.Rounds.{appendRequest, pollRound};
 ghost use Rattle.sfc6.specs.Reading.{startsWith, named, fitting, first, carried, typed, readRequest};
 ghost use Rattle.refusal.specs.Room.{overlay};
+ghost use Rattle.shdlc.specs.Checksum.{sum};
+ghost use Rattle.shdlc.specs.Stuffing.{stuffByte, stuff};
 ghost use Rattle.shdlc.specs.Frame.{frameOf, writeFrame};
 ghost use Rattle.shdlc.specs.Paper.{paperWritten, writtenOf};
 ghost use Rattle.payload.specs.Field.{big, bytesIn, bigEndian};
@@ -181,6 +184,13 @@ fn without_sub(command: u8, value: Value, answer: Answer) -> Row
     }
 }
 
+// A place of the table: 20 for those past it.
+fn within(place: usize) -> usize
+    ensures { λ r. ⌜ r ≡ min place 20 ⌝ }
+{
+    if place < 20 { place } else { 20 }
+}
+
 // The table of commands.
 pub fn row_of(request: Request) -> Row
     ensures { λ r. ⌜ r ≡ row request ⌝ }
@@ -310,50 +320,11 @@ pub fn check_request(address: u8, request: Request) -> Checked
     check_value(address, value)
 }
 
-// Writes a number in so many bytes at a place, and answers the place after it.
-fn put_number(out: &mut [u8], place: usize, n: u32, width: Width) -> usize
-    requires { ⌜ (n < 256 ^ bytesIn width) × (place + bytesIn width ≤ length (now out)) ⌝ }
-    ensures { λ r. ⌜ (r ≡ place + bytesIn width) × (now (out .exit) ≡ overlay (now (out .entry)) place (bigEndian (bytesIn width) n)) ⌝ }
-{
-    match payload::put(out, place, n, width) {
-        Placed::Next(next) => next,
-        Placed::Refused(_) => place,
-    }
-}
-
 // A byte as a number.
 fn wide(b: u8) -> u32
     ensures { λ r. ⌜ (r ≡ b) × (r < 256) ⌝ }
 {
     b as u32
-}
-
-// Writes what a request carries at a place, and answers the place after it.
-fn put_value(out: &mut [u8], place: usize, value: Value) -> usize
-    requires { ⌜ place + length (valueBytes value) ≤ length (now out) ⌝ }
-    ensures { λ r. ⌜ (r ≡ place + length (valueBytes value)) × (now (out .exit) ≡ overlay (now (out .entry)) place (valueBytes value)) ⌝ }
-{
-    match value {
-        Value::Nothing => place,
-        Value::Float(x) => put_number(out, place, bits_of(x), Width::Four),
-        Value::U32(n) => put_number(out, place, n, Width::Four),
-        Value::Address(a) => put_number(out, place, wide(a), Width::One),
-        Value::Baud(rate) => put_number(out, place, rate, Width::Four),
-    }
-}
-
-// Writes the subcommand, where there is one, and answers the place after it.
-fn put_sub(out: &mut [u8], place: usize, sub: Subcommand) -> usize
-    requires { ⌜ place + length (subBytes sub) ≤ length (now out) ⌝ }
-    ensures { λ r. ⌜ (r ≡ place + length (subBytes sub)) × (now (out .exit) ≡ overlay (now (out .entry)) place (subBytes sub)) ⌝ }
-{
-    match sub {
-        Subcommand::Missing => place,
-        Subcommand::Byte(s) => {
-            out[place] = s;
-            place + 1
-        }
-    }
 }
 
 // How many bytes the subcommand takes, and how many the value.
@@ -387,20 +358,6 @@ fn data_size(row: Row) -> usize
     sub_size(sub) + value_size(value)
 }
 
-// Writes the body of a request, its checksum aside, at the start of `out`, and answers its length.
-fn put_body(out: &mut [u8], address: u8, row: Row, size: usize) -> usize
-    requires { ⌜ (8 ≤ length (now out)) × (size ≡ length (dataOf row)) × (size ≤ 5) ⌝ }
-    ensures { λ r. ⌜ (r ≡ length (bodyOf address row)) × (now (out .exit) ≡ overlay (now (out .entry)) 0 (bodyOf address row)) ⌝ }
-{
-    let sub = row.sub;
-    let value = row.value;
-    out[0] = address;
-    out[1] = row.command;
-    out[2] = size as u8;
-    let place = put_sub(out, 3, sub);
-    put_value(out, place, value)
-}
-
 // What both writers refuse before the room is looked at, in its order: 12, 13, 10, 5.
 fn check_row(address: u8, asked: Row) -> Checked
     ensures { λ r. ⌜ ((request : Asked) → row request ≡ asked → paperPassed (frameOf (bodyOf address asked)) r ≡ frameToWrite address request) ⌝ }
@@ -416,34 +373,251 @@ fn check_row(address: u8, asked: Row) -> Checked
     Checked::Good
 }
 
-// Writes the frame of a row at the start of the lent room, and answers its length; 0 where the room is too short. It takes the row apart,
-// since a row would be handed over in memory, by pieces.
-fn lay_row(address: u8, command: u8, sub: Subcommand, value: Value, out: &mut [u8]) -> usize
-    ensures { λ r. ⌜ (writtenOf r, now (out .exit)) ≡ writeFrame (bodyOf address (record { command = command; sub = sub; value = value; answer = Answer.Nothing })) (now (out .entry)) ⌝ }
+// The last byte of a number.
+fn low(n: u32) -> u8
+    ensures { λ r. ⌜ r ≡ n % 256 ⌝ }
 {
-    let asked = Row {
-        command: command,
-        sub: sub,
-        value: value,
-        answer: Answer::Nothing,
-    };
-    let size = data_size(asked);
-    let mut body = [0u8; 8];
-    let end = put_body(&mut body, address, asked, size);
-    shdlc::lay_frame(&body[..end], out)
+    (n % 256) as u8
+}
+
+// Writes the four bytes of a number, each stuffed, at a place, and answers the place after them.
+fn put_four(out: &mut [u8], place: usize, n: u32) -> usize
+    requires { ⌜ place + 8 ≤ length (now out) ⌝ }
+    ensures { λ r. ⌜ (r ≡ place + length (stuff (bigEndian 4 n))) × (now (out .exit) ≡ overlay (now (out .entry)) place (stuff (bigEndian 4 n))) ⌝ }
+{
+    let a = shdlc::put_at(out, place, low(n / 0x100_0000));
+    let b = shdlc::put_at(out, a, low(n / 0x1_0000));
+    let c = shdlc::put_at(out, b, low(n / 0x100));
+    shdlc::put_at(out, c, low(n))
+}
+
+// Writes a number of 0, 1 or 4 bytes, stuffed, at a place, and answers the place after it.
+fn put_number(out: &mut [u8], place: usize, size: usize, n: u32) -> usize
+    requires { ⌜ (place + 8 ≤ length (now out)) × Sized size ⌝ }
+    ensures { λ r. ⌜ (r ≡ place + length (stuff (bigEndian size n))) × (now (out .exit) ≡ overlay (now (out .entry)) place (stuff (bigEndian size n))) ⌝ }
+{
+    if size == 4 {
+        return put_four(out, place, n);
+    }
+    if size == 1 {
+        return shdlc::put_at(out, place, low(n));
+    }
+    place
+}
+
+// The sum of its bytes.
+fn sum_of_number(size: usize, n: u32) -> u32
+    requires { ⌜ Sized size ⌝ }
+    ensures { λ r. ⌜ (r ≡ sum (bigEndian size n)) × (r < 1024) ⌝ }
+{
+    if size == 4 {
+        return n / 0x100_0000 % 256 + n / 0x1_0000 % 256 + n / 0x100 % 256 + n % 256;
+    }
+    if size == 1 {
+        return n % 256;
+    }
+    0
+}
+
+// Writes the front of a frame, and answers the place after it. The command and L go as they are.
+fn put_front(out: &mut [u8], address: u8, command: u8, size: u8) -> usize
+    requires { ⌜ 5 ≤ length (now out) ⌝ }
+    ensures { λ r. ⌜ (r ≡ length (0x7E ∷ (stuffByte address ++ (command ∷ size ∷ [])))) × (now (out .exit) ≡ overlay (now (out .entry)) 0 (0x7E ∷ (stuffByte address ++ (command ∷ size ∷ [])))) ⌝ }
+{
+    out[0] = 0x7E;
+    let place = shdlc::put_at(out, 1, address);
+    out[place] = command;
+    out[place + 1] = size;
+    place + 2
+}
+
+// Ends a frame whose bytes so far have a sum, and answers the place after it.
+fn put_end(out: &mut [u8], place: usize, total: u32) -> usize
+    requires { ⌜ place + 3 ≤ length (now out) ⌝ }
+    ensures { λ r. ⌜ (r ≡ place + length (stuffByte (255 - total % 256) ++ (0x7E ∷ []))) × (now (out .exit) ≡ overlay (now (out .entry)) place (stuffByte (255 - total % 256) ++ (0x7E ∷ []))) ⌝ }
+{
+    let last = shdlc::put_at(out, place, 255 - low(total));
+    out[last] = 0x7E;
+    last + 1
+}
+
+// Writes so many bytes of a subcommand, none or one, at a place, and answers the place after it.
+fn put_sub(out: &mut [u8], place: usize, sub: u8, count: usize) -> usize
+    requires { ⌜ (place < length (now out)) × (count ≤ 1) ⌝ }
+    ensures { λ r. ⌜ (r ≡ place + length (take count (sub ∷ []))) × (now (out .exit) ≡ overlay (now (out .entry)) place (take count (sub ∷ []))) ⌝ }
+{
+    if count == 0 {
+        return place;
+    }
+    out[place] = sub;
+    place + 1
+}
+
+// Writes the frame of a command into room for the longest, and answers its length. The data are none or one byte of a subcommand and a
+// number of so many bytes. No command, L or subcommand of the table is a byte that is stuffed, so that these are not tested.
+fn lay_command(address: u8, command: u8, sub: u8, count: usize, size: usize, n: u32, out: &mut [u8]) -> usize
+    requires { ⌜ (17 ≤ length (now out)) × (count ≤ 1) × Sized size × (sum (take count (sub ∷ [])) ≡ sub) × (stuffByte command ≡ command ∷ []) × (stuffByte sub ≡ sub ∷ []) ⌝ }
+    ensures { λ r. ⌜ (r ≤ 17) × (r ≡ length (frameOf (bodyWith address command (take count (sub ∷ []) ++ bigEndian size n)))) × (now (out .exit) ≡ overlay (now (out .entry)) 0 (frameOf (bodyWith address command (take count (sub ∷ []) ++ bigEndian size n)))) ⌝ }
+{
+    let data = count + size;
+    let front = put_front(out, address, command, data as u8);
+    let middle = put_sub(out, front, sub, count);
+    let end = put_number(out, middle, size, n);
+    let total = wide(address) + wide(command) + data as u32 + wide(sub) + sum_of_number(size, n);
+    put_end(out, end, total)
+}
+
+// A row of the table in one number: command, subcommand (0 for none), how many bytes the subcommand takes and how many the value. The
+// compiler makes a table of it, where a match that gives rows becomes a jump.
+fn form_at(place: usize) -> u32
+    requires { ⌜ place ≤ 20 ⌝ }
+    ensures { λ r. ⌜ (r / 0x1000000 % 256 ≡ row (requestAt place 0) .command) × (r / 0x10000 % 256 ≡ sum (subBytes (row (requestAt place 0) .sub))) × (r / 0x100 % 256 ≡ length (subBytes (row (requestAt place 0) .sub))) × (r % 256 ≡ length (valueBytes (row (requestAt place 0) .value))) ⌝ }
+{
+    match place {
+        0 => 0x00_01_01_00,
+        1 => 0x00_01_01_04,
+        2 => 0x08_01_01_00,
+        3 => 0x22_00_01_00,
+        4 => 0x22_00_01_04,
+        5 => 0x22_03_01_00,
+        6 => 0x22_03_01_04,
+        7 => 0x30_00_01_00,
+        8 => 0x30_02_01_00,
+        9 => 0x30_10_01_00,
+        10 => 0x40_00_01_00,
+        11 => 0x40_10_01_04,
+        12 => 0x44_14_01_00,
+        13 => 0x45_00_00_00,
+        14 => 0x45_00_00_04,
+        15 => 0x46_00_00_04,
+        16 => 0x90_00_00_00,
+        17 => 0x90_00_00_01,
+        18 => 0x91_00_00_00,
+        19 => 0x91_00_00_04,
+        20 => 0xD0_00_01_00,
+        _ => 0,
+    }
+}
+
+// The number of a request in the table's order, 0 to 20.
+pub fn place_of(request: Request) -> usize
+    ensures { λ r. ⌜ (r ≡ placeOf request) × (r ≤ 20) ⌝ }
+{
+    match request {
+        Request::GetSetpoint => 0,
+        Request::SetSetpoint(_) => 1,
+        Request::MeasuredValue => 2,
+        Request::GetGain => 3,
+        Request::SetGain(_) => 4,
+        Request::GetInitStep => 5,
+        Request::SetInitStep(_) => 6,
+        Request::RawFlow => 7,
+        Request::RawConductivity => 8,
+        Request::Temperature => 9,
+        Request::NumberOfCalibrations => 10,
+        Request::Validity(_) => 11,
+        Request::FullScale => 12,
+        Request::GetCalibration => 13,
+        Request::SetCalibration(_) => 14,
+        Request::VolatileCalibration(_) => 15,
+        Request::GetAddress => 16,
+        Request::SetAddress(_) => 17,
+        Request::GetBaud => 18,
+        Request::SetBaud(_) => 19,
+        Request::ProductType => 20,
+    }
+}
+
+// The number that a request carries, a float by its bits; 0 where it carries none.
+pub fn value_of(request: Request) -> u32
+    ensures { λ r. ⌜ r ≡ valueOf request ⌝ }
+{
+    let row = row_of(request);
+    let value = row.value;
+    match value {
+        Value::Nothing => 0,
+        Value::Float(x) => bits_of(x),
+        Value::U32(n) => n,
+        Value::Address(a) => wide(a),
+        Value::Baud(rate) => rate,
+    }
+}
+
+// Writes the frame of the request at a place of the table, carrying a number, into room for the longest, and answers its length.
+fn lay_at(address: u8, place: usize, n: u32, out: &mut [u8]) -> usize
+    requires { ⌜ (place ≤ 20) × (17 ≤ length (now out)) ⌝ }
+    ensures { λ r. ⌜ (r ≤ 17) × (r ≡ length (frameOf (bodyAt address place n))) × (now (out .exit) ≡ overlay (now (out .entry)) 0 (frameOf (bodyAt address place n))) ⌝ }
+{
+    // Never: it tells the compiler that no place below needs a test.
+    if out.len() < 17 {
+        return 0;
+    }
+    let form = form_at(place);
+    lay_command(
+        address,
+        low(form / 0x100_0000),
+        low(form / 0x1_0000),
+        low(form / 0x100) as usize,
+        low(form) as usize,
+        n,
+        out,
+    )
+}
+
+// Copies the first bytes to the start of the room.
+fn copy(out: &mut [u8], bytes: &[u8])
+    requires { ⌜ length (now bytes) ≤ length (now out) ⌝ }
+    ensures { λ _. ⌜ now (out .exit) ≡ overlay (now (out .entry)) 0 (now (bytes .entry)) ⌝ }
+{
+    let mut i: usize = 0;
+    while i < bytes.len() {
+        out[i] = bytes[i];
+        i += 1;
+    }
+}
+
+// The same into any room, 0 where that is too short. A room that might be is given the frame once it is known to fit.
+fn lay_numbered(address: u8, place: usize, n: u32, out: &mut [u8]) -> usize
+    requires { ⌜ place ≤ 20 ⌝ }
+    ensures { λ r. ⌜ (writtenOf r, now (out .exit)) ≡ writeFrame (bodyAt address place n) (now (out .entry)) ⌝ }
+{
+    if 16 < out.len() {
+        return lay_at(address, place, n, out);
+    }
+    let mut spare = [0u8; 17];
+    let end = lay_at(address, place, n, &mut spare);
+    if out.len() < end {
+        return 0;
+    }
+    copy(out, &spare[..end]);
+    end
 }
 
 // Writes the frame of a request at the start of the lent room.
 pub fn write_request(address: u8, request: Request, out: &mut [u8]) -> Written
     ensures { λ r. ⌜ (paperWritten r, now (out .exit)) ≡ writeRequest address request (now (out .entry)) ⌝ }
 {
-    let asked = row_of(request);
-    if let Checked::Refused(r) = check_row(address, asked) {
+    if let Checked::Refused(r) = check_row(address, row_of(request)) {
         return Written::Refused(r);
     }
-    let sub = asked.sub;
-    let value = asked.value;
-    shdlc::written_of(lay_row(address, asked.command, sub, value, out))
+    shdlc::written_of(lay_numbered(address, place_of(request), value_of(request), out))
+}
+
+// The same of the request at a place of the table, carrying a number; 20 and above are the last.
+pub fn write_numbered(address: u8, place: usize, n: u32, out: &mut [u8]) -> Written
+    ensures { λ r. ⌜ (paperWritten r, now (out .exit)) ≡ writeRequest address (requestAt place n) (now (out .entry)) ⌝ }
+{
+    if let Checked::Refused(r) = check_row(address, row_of(request_of(place, n))) {
+        return Written::Refused(r);
+    }
+    shdlc::written_of(lay_numbered(address, within(place), n, out))
+}
+
+// Where the room from a place on starts: at the buffer's end for a place past it.
+fn room_from(start: usize, size: usize) -> usize
+    ensures { λ r. ⌜ r ≡ min start size ⌝ }
+{
+    if start < size { start } else { size }
 }
 
 // Writes the frame of a request into the room that a buffer has left from `start` on. Past its end there is none: 1, but only where
@@ -451,17 +625,8 @@ pub fn write_request(address: u8, request: Request, out: &mut [u8]) -> Written
 pub fn append_request(buffer: &mut [u8], start: usize, address: u8, request: Request) -> Written
     ensures { λ r. ⌜ (paperWritten r, now (buffer .exit)) ≡ appendRequest (now (buffer .entry)) start address request ⌝ }
 {
-    let asked = row_of(request);
-    if let Checked::Refused(r) = check_row(address, asked) {
-        return Written::Refused(r);
-    }
-    let mut end = buffer.len();
-    if start < end {
-        end = start;
-    }
-    let sub = asked.sub;
-    let value = asked.value;
-    shdlc::written_of(lay_row(address, asked.command, sub, value, &mut buffer[end..]))
+    let end = room_from(start, buffer.len());
+    write_request(address, request, &mut buffer[end..])
 }
 
 // Lays the frames of a polling round one after another from `start` on: the same request to each of the nodes. The first frame that is

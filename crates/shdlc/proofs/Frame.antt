@@ -54,7 +54,7 @@ module _ (body room : List ℕ) (fits : length (frameOf body) ≤ length room) w
         let some : (n ≡ 0 → ⊥) = λ z. omega (arith, frame-length body) in
         rw (ne-eqb _ _ some) (rw (emit-served (frameOf body) room fits) (rw (← long, ← whole, two .1)))
 
-sum-append : (xs ys : List ℕ) → sum (xs ++ ys) ≡ sum xs + sum ys
+pub sum-append : (xs ys : List ℕ) → sum (xs ++ ys) ≡ sum xs + sum ys
 unfolding sum
 sum-append [] ys = omega arith
 sum-append (x ∷ xs) ys = omega (arith, sum-append xs ys)

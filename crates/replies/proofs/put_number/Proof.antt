@@ -1,6 +1,6 @@
 -- `replies::put_number` meets its contract: there is room, and the number fits. Assumes nothing.
 use borrow.Author.Needs.{needs}
-use Rattle.sfc6.proofs.Laid.{put-there, put-not}
+use Rattle.payload.proofs.At.{put-there, put-not}
 use Rattle.replies.proofs.Carried.{width-there, number-put}
 use Rattle.replies.proofs.put_number.Statement.{statement}
 use Rattle.replies.proofs.put_number.Tie as tie

@@ -1,25 +1,19 @@
 -- `sfc6::put_sub` meets its contract. Assumes nothing.
 use borrow.Author.Needs.{needs}
 use native.Mathlib.Omega.{arith}
-use mathlib.Core.Path.{sym, refl}
-use Rattle.refusal.proofs.Room.{overlay-nothing, set-overlay}
-use Rattle.sfc6.proofs.Laid.{sub-room, sub-put}
+use mathlib.Core.Path.{_≡_, sym}
+use Rattle.sfc6.proofs.Laid.{set-wrote, none-wrote, one-taken}
 use Rattle.sfc6.proofs.put_sub.Statement.{statement}
 use Rattle.sfc6.proofs.put_sub.Tie as tie
-
-slice-write-out : tie.Need-slice-write-out
-slice-write-out c =
-    let a = c .before .before .before in
-    omega (arith, sub-room (c .before .sub .given .1) (a .args .out .now) (a .args .place) (a .pre))
 
 pub put-sub-spec : {M : Type 1} → statement M
 put-sub-spec =
     tie.close
     (tie.spec
+    (λ c. rw (c .if1 .taken) (none-wrote _ _))
     (λ c. search needs)
     (λ c. search needs)
-    slice-write-out
     (λ c. search needs)
-    (λ c. sub-put (c .enum-told .given .1) _ _ _ _ (omega arith, sym (overlay-nothing _ _)))
-    (λ c. search needs)
-    (λ c. sub-put (c .before .sub .given .1) _ _ _ _ (refl, set-overlay _ _ _ (slice-write-out c))))
+    (λ c.
+    let a = c .before .args in
+    rw (one-taken (a .count) (a .sub) (c .before .pre .1) (c .if1 .left)) (set-wrote _ _ _ (c .before .pre .0))))

@@ -1,7 +1,11 @@
 -- `sfc6::write_request` meets its contract. Assumes nothing.
 use borrow.Author.Needs.{needs}
-use mathlib.Core.Path.{_≡_, sym}
-use Rattle.sfc6.specs.Requests.{dataOf, bodyOf}
+use mathlib.Core.Path.{_≡_, sym, ap, _∙_}
+use mathlib.Core.List.{List}
+use Prim.Native.Nat.{ℕ}
+use Rattle.refusal.specs.Room.{emit}
+use Rattle.shdlc.specs.Frame.{frameOf}
+use Rattle.sfc6.proofs.Plain.{request-body}
 use Rattle.sfc6.proofs.Writing.{write-refused, write-laid}
 use Rattle.sfc6.proofs.write_request.Statement.{statement}
 use Rattle.sfc6.proofs.write_request.Tie as tie
@@ -12,13 +16,16 @@ returns c =
     write-refused _ _ _ _ _ (k .check-row .ensures _ (sym (k .before .row-of .ensures))) (c .before .r .given .1)
 
 returns-2 : tie.Need-returns-2
-unfolding bodyOf dataOf
 returns-2 c =
     let l = c .before .before .before in
-    let g = l .before .before in
+    let v = l .before .before in
+    let p = v .before in
+    let g = p .before in
     let k = g .before .before in
+    let a = k .before .before .before .args in
+    let body = request-body (a .address) (a .request) (p .place-of .ensures .0) (v .value-of .ensures) (k .before .row-of .ensures) in
     write-laid _ _ _ _ _ (k .check-row .ensures _ (sym (k .before .row-of .ensures))) (g .enum-told .given .1) _ (c .written-of .ensures)
-    (l .lay-row .ensures)
+    (l .lay-numbered .ensures ∙ ap (λ (b : List ℕ). emit (frameOf b) (a .out .now)) body)
 
 pub write-request-spec : {M : Type 1} → statement M
 write-request-spec =
@@ -29,6 +36,8 @@ write-request-spec =
     (λ c. search needs)
     returns
     (λ c. search needs)
+    (λ c κs. search needs)
+    (λ c κs. search needs)
     (λ c κs. search needs)
     (λ c κs. search needs)
     (λ c. search needs)

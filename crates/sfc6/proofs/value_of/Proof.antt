@@ -1,9 +1,9 @@
--- `mfc::requests::value_of` meets its contract: each arm knows what the row carries. Assumes nothing.
+-- `sfc6::value_of` meets its contract: each arm knows what the row carries. Assumes nothing.
 use borrow.Author.Needs.{needs}
 use mathlib.Core.Path.{refl}
-use Rattle.mfc.proofs.Numbered.{value-told}
-use Rattle.mfc.proofs.requests.value_of.Statement.{statement}
-use Rattle.mfc.proofs.requests.value_of.Tie as tie
+use Rattle.sfc6.proofs.Table.{value-told}
+use Rattle.sfc6.proofs.value_of.Statement.{statement}
+use Rattle.sfc6.proofs.value_of.Tie as tie
 
 pub value-of-spec : {M : Type 1} → statement M
 value-of-spec =
@@ -20,5 +20,5 @@ value-of-spec =
     (λ c. value-told _ (c .before .before .row-of .ensures) (c .enum-told .given .1) refl)
     (λ c. value-told _ (c .before .before .before .before .row-of .ensures) (c .before .before .value .given .1) (c .bits-of .ensures))
     (λ c. value-told _ (c .before .before .before .row-of .ensures) (c .before .value2 .given .1) refl)
-    (λ c. value-told _ (c .before .before .before .before .row-of .ensures) (c .before .before .value3 .given .1) (c .wide .ensures))
+    (λ c. value-told _ (c .before .before .before .before .row-of .ensures) (c .before .before .value3 .given .1) (c .wide .ensures .0))
     (λ c. value-told _ (c .before .before .before .row-of .ensures) (c .before .value4 .given .1) refl))
