@@ -1,25 +1,15 @@
 -- Eight bit steps at once and undone, and the CRC along a list, one byte further at a time. Assumes nothing.
 use mathlib.Core.Path.{_≡_, refl, sym, ap, _∙_}
 use mathlib.Core.List.{List, [], _∷_}
-use Prim.Native.Nat.{ℕ, zero, suc, _+_, _*_, _/_, _%_, _<_, _≤_}
-use native.Mathlib.Nat.{mod-lt, le-of-suc-le-suc, not-suc-le-zero}
+use Prim.Native.Nat.{ℕ, _+_, _*_, _/_, _%_, _<_, _≤_}
+use native.Mathlib.Nat.{mod-lt}
 use native.Mathlib.Omega.{arith}
 use lib.Bits.{bitXor, xor-lt}
 use lib.ListN.{length, getD, drop}
 use Rattle.refusal.proofs.Rest.{rest-here, rest-end}
+use Rattle.refusal.proofs.Values.{same-at}
 use Rattle.i2c.specs.Crc.{bitStep, bitSteps, byteStep, crcOf}
 use Rattle.i2c.proofs.Xor.{xor-cancel}
-
--- f 0, f 1, .. : n values
-abbrev values : (ℕ → ℕ) → ℕ → List ℕ
-values f zero = []
-values f (suc n) = f 0 ∷ values (λ k. f (suc k)) n
-
--- two functions that have the same values below n, which antt computes and compares once, are the same at each number below n
-same-at : (n : ℕ) (f g : ℕ → ℕ) → values f n ≡ values g n → (k : ℕ) → k < n → f k ≡ g k
-same-at zero f g e k h = absurd (not-suc-le-zero h)
-same-at (suc n) f g e zero h = ap (λ (l : List ℕ). getD l 0 0) e
-same-at (suc n) f g e (suc k) h = same-at n (λ i. f (suc i)) (λ i. g (suc i)) (ap (drop 1) e) k (le-of-suc-le-suc h)
 
 -- the arithmetic of the code's eight bits at once
 abbrev over : ℕ → ℕ

@@ -1,17 +1,18 @@
--- Laws of stuffing: its length, its parts, and that unstuffing gives back what was stuffed. Assumes nothing.
+-- Laws of stuffing: its length, its parts, what it leaves as it is, and that unstuffing gives back what was stuffed. Assumes nothing.
 use mathlib.Core.Path.{_≡_, refl, sym, ap, subst, _∙_}
 use mathlib.Core.Bool.{Bool, true, false, cond}
 use mathlib.Core.List.{List, [], _∷_, _++_, append-assoc, append-nil}
 use mathlib.Core.Option.{Option, none, some}
 use Prim.Native.Nat.{ℕ, _+_, _*_, _≤_, _<_}
 use native.Mathlib.Omega.{arith}
-use lib.Bits.{bitXor}
-use lib.Dec.{eqb}
+use lib.Bits.{bitOr, bitXor}
+use lib.Dec.{eqb, ltb}
 use borrow.Author.Tests.{eqb-true}
 use lib.ListN.{length, getD, drop, length-append}
 use Rattle.refusal.specs.Refusals.{Answered, served, refused}
 use Rattle.shdlc.specs.Stuffing.{escapes, rightOf, leftOf, sent, stuffByte, stuff, isControl, prepend, meant, unstuff, unstuffEscaped}
 use Rattle.refusal.proofs.Rest.{rest-here}
+use Rattle.refusal.proofs.Values.{same-at}
 
 -- how a byte is sent, from a test of it
 module _ (b : ℕ) {test : Bool} (e : stuffByte b ≡ cond test (0x7D ∷ bitXor b 0x20 ∷ []) (b ∷ [])) where
@@ -33,6 +34,11 @@ pub stuff-short : (bytes : List ℕ) → length (stuff bytes) ≤ 2 * length byt
 unfolding stuff
 stuff-short [] = omega arith
 stuff-short (b ∷ bytes) = rw length-append (omega (arith, byte-short b .1, stuff-short bytes))
+
+stuff-long : (bytes : List ℕ) → length bytes ≤ length (stuff bytes)
+unfolding stuff
+stuff-long [] = omega arith
+stuff-long (b ∷ bytes) = rw length-append (omega (arith, byte-short b .0, stuff-long bytes))
 
 pub stuff-nothing : stuff [] ≡ []
 unfolding stuff
@@ -69,6 +75,33 @@ each-byte P delimiter escape xon xoff plain b = go (eqb b 0x7E) (eqb b 0x7D) (eq
     go false false true w p q r s = is 0x11 r xon
     go false false false true p q r s = is 0x13 s xoff
     go false false false false p q r s = plain b p q r s
+
+-- how a byte is sent can be told from how many bytes it takes
+sent-as : (b : ℕ) → stuffByte b ≡ cond (eqb (length (stuffByte b)) 2) (0x7D ∷ bitXor b 0x20 ∷ []) (b ∷ [])
+unfolding stuffByte
+sent-as =
+    each-byte (λ b. stuffByte b ≡ cond (eqb (length (stuffByte b)) 2) (0x7D ∷ bitXor b 0x20 ∷ []) (b ∷ [])) refl refl refl refl
+    (λ b p q r s. simp (p, q, r, s))
+
+pub sent-by : (b : ℕ) (test : Bool) → length (stuffByte b) ≡ cond {A = ℕ} test 2 1 → stuffByte b ≡ cond test (0x7D ∷ bitXor b 0x20 ∷ []) (b ∷ [])
+sent-by b true e = sent-as b ∙ rw e
+sent-by b false e = sent-as b ∙ rw e
+
+-- the four bytes that are stuffed, as two ranges: 11 and 13 differ only in the bit 2
+pub size-by-ranges : (b : ℕ) → b < 256 → length (stuffByte b) ≡ cond {A = ℕ} (eqb (bitOr b 2) 0x13) 2 (cond (ltb b 0x7D) 1 (cond (ltb b 0x7F) 2 1))
+unfolding stuffByte
+size-by-ranges =
+    same-at 256 (λ b. length (stuffByte b)) (λ b. cond {A = ℕ} (eqb (bitOr b 2) 0x13) 2 (cond (ltb b 0x7D) 1 (cond (ltb b 0x7F) 2 1))) refl
+
+-- bytes that do not get longer are sent as they are
+pub stuff-same : (bytes : List ℕ) → length (stuff bytes) ≤ length bytes → stuff bytes ≡ bytes
+unfolding stuff
+stuff-same [] h = refl
+stuff-same (b ∷ bytes) h =
+    let l = length-append (stuffByte b) (stuff bytes) in
+    let one : length (stuffByte b) ≡ 1 = omega (arith, byte-short b .0, stuff-long bytes) in
+    let rest : length (stuff bytes) ≤ length bytes = omega arith in
+    rw (sent-by b false one, stuff-same bytes rest)
 
 -- a byte that is sent comes back
 byte-back : (bytes : List ℕ) (b : ℕ) → unstuff (stuffByte b ++ bytes) ≡ prepend b (unstuff bytes)

@@ -102,13 +102,14 @@ pub fn check_body(kind: Kind, body: &[u8]) -> Checked
 fn is_escaped(b: u8) -> bool
     ensures { λ r. ⌜ stuffByte b ≡ cond r (0x7D ∷ bitXor b 0x20 ∷ []) (b ∷ []) ⌝ }
 {
-    match b {
-        0x7E => true,
-        0x7D => true,
-        0x11 => true,
-        0x13 => true,
-        _ => false,
+    // Two ranges and not four values: the compiler then tests many bytes at once (`has_escaped`).
+    if (b | 2) == 0x13 {
+        return true;
     }
+    if b < 0x7D {
+        return false;
+    }
+    b < 0x7F
 }
 
 // How many bytes b takes once stuffed.
@@ -191,6 +192,53 @@ fn put_stuffed(out: &mut [u8], place: usize, start: u8, bytes: &[u8]) -> Laid
     }
 }
 
+// How many bytes more b takes once stuffed: 0 or 1.
+fn extra(b: u8) -> u8
+    ensures { λ r. ⌜ 1 + r ≡ length (stuffByte b) ⌝ }
+{
+    if is_escaped(b) { 1 } else { 0 }
+}
+
+// Whether a byte is sent after a 7D. All bytes are looked at: without an early end the compiler takes many at once.
+fn has_escaped(bytes: &[u8]) -> bool
+    ensures { λ r. ⌜ r ≡ ltb (length (now (bytes .entry))) (length (stuff (now (bytes .entry)))) ⌝ }
+{
+    let mut found: u8 = 0;
+    let mut i: usize = 0;
+    while i < bytes.len() {
+        found = found | extra(bytes[i]);
+        i += 1;
+    }
+    found != 0
+}
+
+// Writes the bytes as they are from a place on.
+fn copy(out: &mut [u8], place: usize, bytes: &[u8])
+    requires { ⌜ place + length (now bytes) ≤ length (now out) ⌝ }
+    ensures { λ r. ⌜ now (out .exit) ≡ overlay (now (out .entry)) place (now (bytes .entry)) ⌝ }
+{
+    let mut i: usize = 0;
+    while i < bytes.len() {
+        out[place + i] = bytes[i];
+        i += 1;
+    }
+}
+
+// Writes a text as `put_stuffed` does. Most texts have no byte that is sent after a 7D: those are copied as they are.
+fn put_text(out: &mut [u8], place: usize, start: u8, bytes: &[u8]) -> Laid
+    requires { ⌜ place + length (stuff (now bytes)) ≤ length (now out) ⌝ }
+    ensures { λ r. ⌜ (r .place ≡ place + length (stuff (now (bytes .entry)))) × (r .total ≡ (start + sum (now (bytes .entry))) % 256) × (now (out .exit) ≡ overlay (now (out .entry)) place (stuff (now (bytes .entry)))) ⌝ }
+{
+    if has_escaped(bytes) {
+        return put_stuffed(out, place, start, bytes);
+    }
+    copy(out, place, bytes);
+    Laid {
+        place: place + bytes.len(),
+        total: sum_on(start, bytes),
+    }
+}
+
 // Ends a frame with the checksum of a sum, stuffed, and a 7E, and answers the place after it.
 fn finish(out: &mut [u8], place: usize, total: u8) -> usize
     requires { ⌜ place + length (stuffByte (255 - total)) < length (now out) ⌝ }
@@ -247,7 +295,7 @@ fn is_short(first: &[u8], second: &[u8], third: &[u8], room: usize) -> bool
 }
 
 // Writes the frame of a body in three parts, without its checksum, at the start of the lent room, and answers its length; 0 where the room
-// is too short.
+// is too short. The second part is the text, if the body has one.
 pub fn lay_parts(first: &[u8], second: &[u8], third: &[u8], out: &mut [u8]) -> usize
     ensures { λ r. ⌜ (writtenOf r, now (out .exit)) ≡ writeFrame (now (first .entry) ++ (now (second .entry) ++ now (third .entry))) (now (out .entry)) ⌝ }
 {
@@ -256,7 +304,7 @@ pub fn lay_parts(first: &[u8], second: &[u8], third: &[u8], out: &mut [u8]) -> u
     }
     out[0] = 0x7E;
     let a = put_stuffed(out, 1, 0, first);
-    let b = put_stuffed(out, a.place, a.total, second);
+    let b = put_text(out, a.place, a.total, second);
     let c = put_stuffed(out, b.place, b.total, third);
     finish(out, c.place, c.total)
 }

@@ -1,31 +1,25 @@
--- `shdlc::is_escaped` meets its contract: by the table, byte by byte. Assumes nothing.
-use mathlib.Core.Path.{_≡_}
-use borrow.Author.Tests.{ne-eqb}
-use Rattle.shdlc.specs.Stuffing.{stuffByte}
+-- `shdlc::is_escaped` meets its contract: a byte takes two bytes in the two ranges, and one outside. Assumes nothing.
+use mathlib.Core.Path.{_∙_}
+use mathlib.Core.Bool.{true, false}
+use lib.Dec.{ltb}
+use borrow.Author.Tests.{lt-ltb, le-ltb, eq-eqb, ne-eqb}
+use Rattle.shdlc.proofs.Stuffing.{sent-by, size-by-ranges}
 use Rattle.shdlc.proofs.is_escaped.Statement.{statement}
 use Rattle.shdlc.proofs.is_escaped.Tie as tie
 
-returns-5 : tie.Need-returns-5
-unfolding stuffByte
-returns-5 c =
-    let r = c .match .rest in
-    simp (ne-eqb _ _ (r .1), ne-eqb _ _ (r .0 .1), ne-eqb _ _ (r .0 .0 .1), ne-eqb _ _ (r .0 .0 .0 .1))
-
 returns : tie.Need-returns
-unfolding stuffByte
-returns c = rw (c .match .keys1)
+returns c = sent-by _ true (size-by-ranges _ (c .before .fits .b .fits) ∙ rw (eq-eqb _ _ (c .if1 .taken)))
 
 returns-2 : tie.Need-returns-2
-unfolding stuffByte
-returns-2 c = rw (c .match .keys2)
+returns-2 c =
+    let p = c .before in
+    sent-by _ false (size-by-ranges _ (p .before .fits .b .fits) ∙ rw (ne-eqb _ _ (p .if1 .left), lt-ltb _ _ (c .if2 .taken)))
 
 returns-3 : tie.Need-returns-3
-unfolding stuffByte
-returns-3 c = rw (c .match .keys3)
-
-returns-4 : tie.Need-returns-4
-unfolding stuffByte
-returns-4 c = rw (c .match .keys4)
+returns-3 c =
+    let p = c .before in
+    let b = p .before .args .b in
+    sent-by b (ltb b 0x7F) (size-by-ranges b (p .before .fits .b .fits) ∙ rw (ne-eqb _ _ (p .if1 .left), le-ltb _ _ (c .if2 .left)))
 
 pub is-escaped-spec : {M : Type 1} → statement M
-is-escaped-spec = tie.close (tie.spec returns returns-2 returns-3 returns-4 returns-5)
+is-escaped-spec = tie.close (tie.spec returns returns-2 returns-3)

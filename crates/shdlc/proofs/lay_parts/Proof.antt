@@ -31,28 +31,29 @@ Body c = First c ++ (Second c ++ Third c)
 fits : (c : tie.Else1) → length (frameOf (Body (c .before))) ≤ length (Room (c .before))
 fits c = fits-room (Body (c .before)) (Room (c .before)) (c .before .is-short .ensures) (c .if1 .left)
 
-size : (c : tie.Else1) → 1 + length (stuff (First (c .before))) + length (stuff (Second (c .before))) + length (stuff (Third (c .before))) ≤ length (Room (c .before))
+size : (c : tie.Else1)
+    → 1 + length (stuff (First (c .before))) + length (stuff (Second (c .before))) + length (stuff (Third (c .before))) ≤ length (Room (c .before))
 size c = omega (arith, fits c, parts-length (First (c .before)) (Second (c .before)) (Third (c .before)))
 
 put-stuffed-requires : tie.Need-put-stuffed-requires
 put-stuffed-requires c κs = omega (arith, size (c .before), length-set (Room (c .before .before)) 0 0x7E)
 
-put-stuffed-requires-2 : tie.Need-put-stuffed-requires-2
-put-stuffed-requires-2 c κs =
+put-text-requires : tie.Need-put-text-requires
+put-text-requires c κs =
     let p = c .before .before .before in
     let s = p .before .before in
     omega (arith, size s, p .put-stuffed, length-set (Room (s .before)) 0 0x7E)
 
-put-stuffed-requires-3 : tie.Need-put-stuffed-requires-3
-put-stuffed-requires-3 c κs =
+put-stuffed-requires-2 : tie.Need-put-stuffed-requires-2
+put-stuffed-requires-2 c κs =
     let q = c .before .before .before in
     let p = q .before .before .before .before in
     let s = p .before .before in
-    omega (arith, size s, p .put-stuffed, q .put-stuffed2, length-set (Room (s .before)) 0 0x7E)
+    omega (arith, size s, p .put-stuffed, q .put-text, length-set (Room (s .before)) 0 0x7E)
 
 -- the sum and the room after the three parts
-module _ (c : tie.After-put-stuffed3) where
-  abbrev Q : tie.After-put-stuffed2
+module _ (c : tie.After-put-stuffed2) where
+  abbrev Q : tie.After-put-text
   Q = c .before .before .before .before
 
   abbrev P : tie.After-put-stuffed
@@ -64,22 +65,22 @@ module _ (c : tie.After-put-stuffed3) where
   abbrev Start : tie.After-is-short
   Start = S .before
 
-  checksum-is : 255 - c .put-stuffed3 .result .total ≡ checksumOf (Body Start)
+  checksum-is : 255 - c .put-stuffed2 .result .total ≡ checksumOf (Body Start)
   checksum-is =
       parts-checksum (First Start) (Second Start) (Third Start) _ _ _
-      (P .put-stuffed .ensures .1) (Q .put-stuffed2 .ensures .1) (c .put-stuffed3 .ensures .1)
+      (P .put-stuffed .ensures .1) (Q .put-text .ensures .1) (c .put-stuffed2 .ensures .1)
 
-  laid : (c .put-stuffed3 .result .place ≡ 1 + length (stuff (Body Start)))
-      × (c .put-stuffed3 .last .0 ≡ overlay (set (Room Start) 0 0x7E) 1 (stuff (Body Start)))
+  laid : (c .put-stuffed2 .result .place ≡ 1 + length (stuff (Body Start)))
+      × (c .put-stuffed2 .last .0 ≡ overlay (set (Room Start) 0 0x7E) 1 (stuff (Body Start)))
   laid =
       let e = P .put-stuffed .ensures in
-      let f = Q .put-stuffed2 .ensures in
-      let g = c .put-stuffed3 .ensures in
+      let f = Q .put-text .ensures in
+      let g = c .put-stuffed2 .ensures in
       let h : 1 ≤ length (set (Room Start) 0 0x7E) = omega (arith, size S, length-set (Room Start) 0 0x7E) in
       parts-laid (First Start) (Second Start) (Third Start) (set (Room Start) 0 0x7E) _ _ _ _ _ _ h (e .0, e .2) (f .0, f .2) (g .0, g .2)
 
-  kept : length (c .put-stuffed3 .last .0) ≡ length (Room Start)
-  kept = omega (arith, P .put-stuffed, Q .put-stuffed2, c .put-stuffed3, length-set (Room Start) 0 0x7E)
+  kept : length (c .put-stuffed2 .last .0) ≡ length (Room Start)
+  kept = omega (arith, P .put-stuffed, Q .put-text, c .put-stuffed2, length-set (Room Start) 0 0x7E)
 
 finish-requires : tie.Need-finish-requires
 finish-requires c κs =
@@ -102,8 +103,8 @@ lay-parts-spec =
     (λ c. no-frame _ _ (c .before .is-short .ensures) (c .if1 .taken))
     (λ c. first-fits (Body (c .before)) (Room (c .before)) (fits c))
     put-stuffed-requires
+    put-text-requires
     put-stuffed-requires-2
-    put-stuffed-requires-3
     finish-requires
     same-length
     returns-2)
