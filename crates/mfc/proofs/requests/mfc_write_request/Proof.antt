@@ -1,5 +1,6 @@
 -- `mfc::requests::mfc_write_request` meets its contract. Assumes nothing.
 use borrow.Author.Needs.{needs}
+use mathlib.Core.Path.{refl}
 use Rattle.mfc.proofs.Numbered.{named, write-above, write-named}
 use Rattle.mfc.proofs.requests.mfc_write_request.Statement.{statement}
 use Rattle.mfc.proofs.requests.mfc_write_request.Tie as tie
@@ -13,9 +14,8 @@ mfc-write-request-spec =
     (λ c κs. search needs)
     (λ c κs. search needs)
     (λ c κs. search needs)
-    (λ c κs. search needs)
     (λ c. search needs)
     (λ c.
     let w = c .before .before .before in
-    let q = w .before .before in
-    write-named _ _ _ _ (q .before .before .if1 .left) (named _ _ (q .before .place .ensures) (q .request-of .ensures)) (w .write-request .ensures) (c .of-written .ensures)))
+    let p = w .before .before in
+    write-named _ _ _ _ (p .before .if1 .left) (named _ _ (p .place .ensures) refl) (w .write-numbered .ensures) (c .of-written .ensures)))
