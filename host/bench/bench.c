@@ -1,7 +1,12 @@
 /* bench: the library beside plain C on the same jobs, and the stack that each exported function uses.
  *
  * The two take turns in short slices within one process, so that other load on the machine hits both, and medians are shown.
- * Before anything is timed, both must give the same answers on the bytes measured and on many others. */
+ * Before anything is timed, both must give the same answers on the bytes measured and on many others.
+ *
+ *   bench rows      a line for each job, its parts between tabs: name, unit, library, plain C, ratio
+ *   bench stacks    the stack of each exported function
+ *
+ * Where the code lies moves the times of short calls by up to a third: bench/table puts the rows of several placements together. */
 #define _POSIX_C_SOURCE 200809L
 #include "mfc.h"
 #include "plain.h"
@@ -435,11 +440,10 @@ static int by_size(const void *a, const void *b)
     return (x > y) - (x < y);
 }
 
-/* Sorts, and gives the value that so many quarters lie below. */
-static double quartile(double *values_of, unsigned quarters)
+static double median(double *values_of)
 {
     qsort(values_of, SLICES, sizeof values_of[0], by_size);
-    return values_of[(SLICES - 1) * quarters / 4];
+    return values_of[SLICES / 2];
 }
 
 /* One line of the table; `units` is how many of `unit` one run does. */
@@ -458,8 +462,7 @@ static void measure(const char *name, const char *unit, size_t units, void (*lib
             one[i] = slice(library, library_times);
         ratio[i] = one[i] / other[i];
     }
-    (void)printf("%-50s %10.2f %10.2f %7.2f   %.2f to %.2f   ns a %s\n", name, quartile(one, 2) / per, quartile(other, 2) / per,
-                 quartile(ratio, 2), quartile(ratio, 1), quartile(ratio, 3), unit);
+    (void)printf("%s\tns a %s\t%.3f\t%.3f\t%.3f\n", name, unit, median(one) / per, median(other) / per, median(ratio));
     (void)fflush(stdout);
 }
 
@@ -483,7 +486,6 @@ static void measure_crc(const char *table, const char *folded, size_t n, size_t 
 
 static void measure_all(void)
 {
-    (void)printf("%-50s %10s %10s %7s   %s\n", "job", "library", "plain C", "ratio", "half of the ratios lie in");
     measure_feed("receive polling traffic, pieces of 1", polling, polling_n, 1, feed_plain);
     measure_feed("receive polling traffic, pieces of 16", polling, polling_n, 16, feed_plain);
     measure_feed("receive polling traffic, pieces of 4,096", polling, polling_n, 4096, feed_plain);
@@ -637,14 +639,19 @@ static void print_stacks(void)
 
     lay_bodies();
     lay_type();
-    (void)printf("\ndeepest stack, with the caller's frame\n");
+    (void)printf("deepest stack, with the caller's frame\n");
     for (size_t i = 0; i < sizeof uses / sizeof uses[0]; i++)
         (void)printf("%-50s %10lu   bytes\n", uses[i].name, (unsigned long)stack_use(uses[i].use));
 }
 
-int main(void)
+int main(int argc, char **argv)
 {
     static const uint8_t special[4] = { 0x7E, 0x7D, 0x11, 0x13 };
+
+    if (argc != 2 || (strcmp(argv[1], "rows") != 0 && strcmp(argv[1], "stacks") != 0)) {
+        (void)fprintf(stderr, "usage: bench rows | bench stacks\n");
+        return 2;
+    }
 
     polling_round(polls);
     polling_n = polling_traffic(polling, sizeof polling);
@@ -658,13 +665,16 @@ int main(void)
         letters[i] = (uint8_t)('A' + i % 26);
     for (size_t i = 0; i < sizeof specials; i++)
         specials[i] = special[i % 4];
+    if (strcmp(argv[1], "stacks") == 0) {
+        print_stacks();
+        return 0;
+    }
     compare_all();
-    (void)printf("%lu answers compared, %lu different\n\n", compared, unlike);
+    (void)fprintf(stderr, "%lu answers compared, %lu different\n", compared, unlike);
     if (unlike > 0) {
-        (void)printf("nothing is timed while the answers differ\n");
+        (void)fprintf(stderr, "nothing is timed while the answers differ\n");
         return 1;
     }
     measure_all();
-    print_stacks();
     return 0;
 }

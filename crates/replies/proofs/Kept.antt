@@ -17,7 +17,7 @@ use Rattle.sfc6.specs.declared.Request.{Request}
 use Rattle.sfc6.specs.declared.Answer.{Answer}
 use Rattle.sfc6.specs.declared.Answer.the-variants as answer
 use Rattle.sfc6.specs.Commands.{row, finite, member}
-use Rattle.sfc6.proofs.Floats.{nan-above, nan-not-above}
+use Rattle.sfc6.proofs.Floats.{nan-or-not}
 use Rattle.sfc6.proofs.Rewritten.{not-nan}
 use Rattle.replies.specs.declared.Reading.{Reading}
 use Rattle.replies.specs.declared.Reading.the-variants.{Finite, Invalid, PlusInfinity, MinusInfinity}
@@ -77,20 +77,6 @@ or-nothing true = refl
 or-nothing false = refl
 
 -- and it is refused just where it is neither finite nor one of the three codings: "other non-finite patterns are 13"
-nan-not-finite : (n : ℕ) → 0x7F800000 < n % 0x80000000 → finite n ≡ false
-nan-not-finite n h = let e : n / 0x800000 % 256 ≡ 255 = omega arith in rw e
-
-nan-or-not : (n : ℕ) → n < 2 ^ 32 → not (finite (toBits binary32 (ofBits binary32 n))) ≡ not (finite n)
-unfolding toBits
-nan-or-not n h = go (ltb 0x7F800000 (n % 0x80000000)) refl
-  where
-    go : (t : Bool) → ltb 0x7F800000 (n % 0x80000000) ≡ t → not (finite (toBits binary32 (ofBits binary32 n))) ≡ not (finite n)
-    go true e = let l = ltb-true 0x7F800000 (n % 0x80000000) e in rw (nan-above n l, nan-not-finite n l)
-    go false e =
-        let l = ltb-false 0x7F800000 (n % 0x80000000) e in
-        let k : isNan (ofBits binary32 n) ≡ false = sym (nanBits-is binary32 n) ∙ nan-not-above n l in
-        ap (λ (b : ℕ). not (finite b)) (toBits-ofBits binary32 n h (subst (λ (b : Bool). T (not b)) (sym k) tt))
-
 pub bad-pattern : (n : ℕ) → n < 2 ^ 32 → notFinite (readingOf n) ≡ not (finite n || member n (0xFFFFFFFF ∷ 0x7F800000 ∷ 0xFF800000 ∷ []))
 bad-pattern n h = go (eqb n 0xFFFFFFFF) (eqb n 0x7F800000) (eqb n 0xFF800000) refl refl refl
   where

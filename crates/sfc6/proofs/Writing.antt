@@ -1,14 +1,16 @@
 -- Writing a request: each answer of the definition, from the tests that lead to it. Assumes nothing.
-use mathlib.Core.Path.{_≡_, refl, sym, ap, _∙_}
-use mathlib.Core.Bool.{Bool, true, false, cond}
+use mathlib.Core.Path.{_≡_, refl, sym, ap, subst, _∙_}
+use mathlib.Core.Bool.{Bool, true, false, cond, not}
 use mathlib.Core.List.{List, [], _∷_, _++_, append-nil}
-use Prim.Native.Nat.{ℕ, _-_, _≤_, _<_, min}
+use Prim.Native.Nat.{ℕ, _-_, _^_, _≤_, _<_, min}
 use native.Mathlib.Omega.{arith}
 use borrow.Author.Tests.{lt-ltb, le-ltb, ltb-true, ltb-false, ne-eqb}
-use lib.Dec.{ltb}
+use lib.Dec.{ltb, eqb}
+use lib.Ieee.{binary32, toBits, ofBits}
 use lib.ListN.{length, take, drop, length-drop, drop-of-length-le, take-append-drop}
 use lib.Seq.{take-all, take-length, drop-length}
 use Rattle.refusal.specs.declared.Refusal.{Refusal}
+use Rattle.refusal.specs.declared.Refusal.the-variants.{OutOfRange, BadFloat, AddressBroadcast}
 use Rattle.refusal.specs.Refusals.{Numbered, Answered, number, served, refused, paper, inOrder}
 use Rattle.refusal.specs.Room.{overlay, emit}
 use Rattle.refusal.proofs.Room.{take-overlay, emit-served, emit-refused}
@@ -18,12 +20,15 @@ use Rattle.shdlc.specs.Frame.{frameOf, writeFrame}
 use Rattle.shdlc.specs.Paper.{writtenOf}
 use Rattle.shdlc.proofs.Frame.{frame-length}
 use Rattle.sfc6.specs.declared.Request.{Request}
+use Rattle.sfc6.specs.declared.Request.the-variants.{ProductType}
 use Rattle.sfc6.specs.declared.Row.{Row}
-use Rattle.sfc6.specs.Commands.{row, outOfRange, badFloat}
+use Rattle.sfc6.specs.Commands.{row, requestAt, finite, member, bauds, outOfRange, badFloat}
 use Rattle.sfc6.specs.Requests.{requestChecks, checkRequest, dataOf, bodyOf, frameToWrite, writeRequest}
 use Rattle.sfc6.specs.Rounds.{appendRequest}
 use Rattle.sfc6.specs.Paper.{paperPassed}
 use Rattle.sfc6.proofs.Checks.{passed-value}
+use Rattle.sfc6.proofs.Floats.{nan-or-not}
+use Rattle.sfc6.proofs.Table.{NoneBelow, request-last}
 use Rattle.sfc6.proofs.Order.{never, first-refuses, then-more}
 
 -- the test of the data's length
@@ -57,6 +62,51 @@ module _ (address : ℕ) (r : Row) (c : Checked)
 
     pub row-good : size ≤ 255 → (request : Request) → row request ≡ r → served (frameOf (bodyOf address r)) ≡ frameToWrite address request
     row-good h request at-row = rw (rest request at-row good, ← counted, le-ltb _ _ h)
+
+-- the same of the request at a place: what a check answers is what the definition says of it
+module _ (address : ℕ) where
+  abbrev pub Says : Request → Checked → Type 0
+  Says request c = paperPassed (frameOf (bodyOf address (row request))) c ≡ frameToWrite address request
+
+  pub says-known : (place k n : ℕ) (c : Checked) → place ≡ k → Says (requestAt k n) c → Says (requestAt place n) c
+  says-known place k n c e h = subst (λ (m : ℕ). Says (requestAt m n) c) (sym e) h
+
+  pub says-last : (place n : ℕ) (c : Checked) → NoneBelow place 20 → Says ProductType c → Says (requestAt place n) c
+  says-last place n c none h = subst (λ (q : Request). Says q c) (request-last place n none) h
+
+module _ (frame : List ℕ) (n : ℕ) {c : Checked} where
+  pub float-checked : n < 2 ^ 32 → c ≡ cond (finite n) Good (Refused BadFloat)
+      → paperPassed frame c ≡ cond (not (finite (toBits binary32 (ofBits binary32 n)))) (refused (number 13)) (served frame)
+  float-checked h e = rw (nan-or-not n h, e) (go (finite n))
+    where
+      go : (t : Bool) → paperPassed frame (cond t Good (Refused BadFloat)) ≡ cond (not t) (refused (number 13)) (served frame)
+      go true = refl
+      go false = refl
+
+  pub baud-checked : c ≡ cond (member n bauds) Good (Refused OutOfRange)
+      → paperPassed frame c ≡ cond (not (member n bauds)) (refused (number 12)) (served frame)
+  baud-checked e = rw e (go (member n bauds))
+    where
+      go : (t : Bool) → paperPassed frame (cond t Good (Refused OutOfRange)) ≡ cond (not t) (refused (number 12)) (served frame)
+      go true = refl
+      go false = refl
+
+  pub address-checked : (address : ℕ) → c ≡ cond (ltb 254 n) (Refused OutOfRange) (cond (eqb address 255) (Refused AddressBroadcast) Good)
+      → paperPassed frame c ≡ cond (ltb 254 (min n 255)) (refused (number 12)) (cond (eqb address 255) (refused (number 10)) (served frame))
+  address-checked address e = rw (e, same) (go (ltb 254 n) (eqb address 255))
+    where
+      same : ltb 254 (min n 255) ≡ ltb 254 n
+      same = by (ltb 254 n) refl
+        where
+          by : (t : Bool) → ltb 254 n ≡ t → ltb 254 (min n 255) ≡ t
+          by true h = lt-ltb 254 (min n 255) (omega (arith, ltb-true 254 n h))
+          by false h = le-ltb 254 (min n 255) (omega (arith, ltb-false 254 n h))
+
+      go : (t u : Bool) → paperPassed frame (cond t (Refused OutOfRange) (cond u (Refused AddressBroadcast) Good))
+          ≡ cond t (refused (number 12)) (cond u (refused (number 10)) (served frame))
+      go true u = refl
+      go false true = refl
+      go false false = refl
 
 -- a frame that stands at the start of a room that holds it, one that is copied there, and one that does not fit
 module _ (body room : List ℕ) (n : ℕ) (long : n ≡ length (frameOf body)) where

@@ -9,7 +9,7 @@ ghost use mathlib.Core.Path.{_≡_};
 ghost use mathlib.Core.List.{[], _∷_, _++_};
 ghost use Prim.Native.Nat.{_+_, _-_, _/_, _%_, _≤_, _<_, min};
 ghost use mathlib.Core.Bool.{cond};
-ghost use lib.Dec.{ltb};
+ghost use lib.Dec.{ltb, eqb};
 ghost use lib.ListN.{length, take, drop};
 ghost use lib.Ieee.{binary32, toBits, ofBits};
 ghost use Rattle.sfc6.specs.declared.Request.{Request as Asked};
@@ -455,7 +455,15 @@ fn put_sub(out: &mut [u8], place: usize, sub: u8, count: usize) -> usize
 
 // Writes the frame of a command into room for the longest, and answers its length. The data are none or one byte of a subcommand and a
 // number of so many bytes. No command, L or subcommand of the table is a byte that is stuffed, so that these are not tested.
-fn lay_command(address: u8, command: u8, sub: u8, count: usize, size: usize, n: u32, out: &mut [u8]) -> usize
+fn lay_command(
+    address: u8,
+    command: u8,
+    sub: u8,
+    count: usize,
+    size: usize,
+    n: u32,
+    out: &mut [u8],
+) -> usize
     requires { ⌜ (17 ≤ length (now out)) × (count ≤ 1) × Sized size × (sum (take count (sub ∷ [])) ≡ sub) × (stuffByte command ≡ command ∷ []) × (stuffByte sub ≡ sub ∷ []) ⌝ }
     ensures { λ r. ⌜ (r ≤ 17) × (r ≡ length (frameOf (bodyWith address command (take count (sub ∷ []) ++ bigEndian size n)))) × (now (out .exit) ≡ overlay (now (out .entry)) 0 (frameOf (bodyWith address command (take count (sub ∷ []) ++ bigEndian size n)))) ⌝ }
 {
@@ -603,11 +611,72 @@ pub fn write_request(address: u8, request: Request, out: &mut [u8]) -> Written
     shdlc::written_of(lay_numbered(address, place_of(request), value_of(request), out))
 }
 
+// The checks of a float by its bits, of an address and of a baud.
+fn check_float(bits: u32) -> Checked
+    ensures { λ r. ⌜ r ≡ cond (finite bits) Checked.Good (Checked.Refused Refusal.BadFloat) ⌝ }
+{
+    if is_finite(bits) {
+        return Checked::Good;
+    }
+    Checked::Refused(Refusal::BadFloat)
+}
+
+fn check_address(address: u8, n: u32) -> Checked
+    ensures { λ r. ⌜ r ≡ cond (ltb 254 n) (Checked.Refused Refusal.OutOfRange) (cond (eqb address 255) (Checked.Refused Refusal.AddressBroadcast) Checked.Good) ⌝ }
+{
+    if 254 < n {
+        return Checked::Refused(Refusal::OutOfRange);
+    }
+    if address == 255 {
+        return Checked::Refused(Refusal::AddressBroadcast);
+    }
+    Checked::Good
+}
+
+fn check_baud(rate: u32) -> Checked
+    ensures { λ r. ⌜ r ≡ cond (member rate bauds) Checked.Good (Checked.Refused Refusal.OutOfRange) ⌝ }
+{
+    if is_baud(rate) {
+        return Checked::Good;
+    }
+    Checked::Refused(Refusal::OutOfRange)
+}
+
+// What the writer refuses of the request at a place, carrying a number, before the room is looked at. It asks the number, and makes no
+// request of it first.
+fn check_at(address: u8, place: usize, n: u32) -> Checked
+    ensures { λ r. ⌜ paperPassed (frameOf (bodyOf address (row (requestAt place n)))) r ≡ frameToWrite address (requestAt place n) ⌝ }
+{
+    match place {
+        0 => Checked::Good,
+        1 => check_float(n),
+        2 => Checked::Good,
+        3 => Checked::Good,
+        4 => check_float(n),
+        5 => Checked::Good,
+        6 => check_float(n),
+        7 => Checked::Good,
+        8 => Checked::Good,
+        9 => Checked::Good,
+        10 => Checked::Good,
+        11 => Checked::Good,
+        12 => Checked::Good,
+        13 => Checked::Good,
+        14 => Checked::Good,
+        15 => Checked::Good,
+        16 => Checked::Good,
+        17 => check_address(address, n),
+        18 => Checked::Good,
+        19 => check_baud(n),
+        _ => Checked::Good,
+    }
+}
+
 // The same of the request at a place of the table, carrying a number; 20 and above are the last.
 pub fn write_numbered(address: u8, place: usize, n: u32, out: &mut [u8]) -> Written
     ensures { λ r. ⌜ (paperWritten r, now (out .exit)) ≡ writeRequest address (requestAt place n) (now (out .entry)) ⌝ }
 {
-    if let Checked::Refused(r) = check_row(address, row_of(request_of(place, n))) {
+    if let Checked::Refused(r) = check_at(address, place, n) {
         return Written::Refused(r);
     }
     shdlc::written_of(lay_numbered(address, within(place), n, out))

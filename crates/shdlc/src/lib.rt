@@ -137,13 +137,14 @@ fn put_byte(out: &mut [u8], place: usize, b: u8) -> usize
     requires { ⌜ place + length (stuffByte b) ≤ length (now out) ⌝ }
     ensures { λ r. ⌜ (r ≡ place + length (stuffByte b)) × (now (out .exit) ≡ overlay (now (out .entry)) place (stuffByte b)) ⌝ }
 {
+    // Most bytes go as they are: stored first, they need no jump.
+    out[place] = b;
     if is_escaped(b) {
         out[place] = 0x7D;
         let next = place + 1;
         out[next] = b ^ 0x20;
         return next + 1;
     }
-    out[place] = b;
     place + 1
 }
 
