@@ -148,9 +148,15 @@ fn is_pending(m: u8, len: usize) -> bool
 fn length_in_range(mode: Mode, len: usize) -> bool
     ensures { λ r. ⌜ r ≡ lengthInRange mode len ⌝ }
 {
+    if 261 < len {
+        return false;
+    }
+    if len == 0 {
+        return true;
+    }
     match mode {
-        Mode::Outside => len == 0,
-        Mode::Plain | Mode::Escaped | Mode::BadEscape | Mode::BareControl => len < 262,
+        Mode::Outside => false,
+        Mode::Plain | Mode::Escaped | Mode::BadEscape | Mode::BareControl => true,
     }
 }
 
