@@ -6,7 +6,7 @@ use mathlib.Core.Bool.{Bool, true, false, cond, not, _&&_, false≢true}
 use mathlib.Core.List.{List, [], _∷_}
 use borrow.Author.Tests.{ltb-false, lt-ltb, le-ltb, eqb-true}
 use lib.Dec.{ltb, eqb}
-use lib.ListN.{length, take}
+use lib.ListN.{length, getD, take}
 use Rattle.refusal.specs.Refusals.{Numbered, number, Answered, served, refused}
 use Rattle.refusal.specs.Room.{overlay}
 use Rattle.refusal.proofs.Order.{refused-not-served, passed}
@@ -17,8 +17,9 @@ use Rattle.receiver.specs.declared.Mode.{Mode}
 use Rattle.receiver.specs.declared.Mode.the-variants.{Outside, Plain, Escaped, BadEscape, BareControl}
 use Rattle.receiver.specs.declared.Receiver.{Receiver}
 use Rattle.receiver.specs.declared.Fed.{Fed}
+use Rattle.receiver.specs.declared.Scanned.{Scanned}
 use Rattle.receiver.specs.Record.{Record, held, outsideOf, lengthInRange, inRange, opened, silenced, pending, itemIn, itemOf, nextByte}
-use Rattle.receiver.specs.Calls.{Said, nothing, gave, Outcome, saidOf, bufferOf, Scan, paperFed, refusedCall, completed, unfinished, closes, scanFrom, fedBy, feedOf, silenceOf}
+use Rattle.receiver.specs.Calls.{Said, nothing, gave, Outcome, saidOf, bufferOf, Scan, scannedAs, paperFed, refusedCall, completed, unfinished, closes, scanFrom, fedBy, feedOf, silenceOf}
 
 -- a test of the code that is negated
 pub not-true : (t : Bool) → not t ≡ true → t ≡ false
@@ -116,6 +117,25 @@ scan-taken [] n r = omega arith
 scan-taken (b ∷ piece) n r =
     scan-taken-test (closes r b) (record { before = r; taken = n + 1; closed = true }) (scanFrom (n + 1) (nextByte r b) piece) (n + length (b ∷ piece))
     (omega arith) (omega (arith, scan-taken piece (n + 1) (nextByte r b)))
+
+-- a piece of one byte is taken whole
+one-taken : (r : Record) (b : ℕ) → scanFrom 0 r (b ∷ []) .taken ≡ 1
+unfolding scanFrom
+one-taken r b = go (closes r b)
+  where
+    go : (t : Bool)
+        → cond {A = Scan} t (record { before = r; taken = 1; closed = true }) (record { before = nextByte r b; taken = 1; closed = false }) .taken ≡ 1
+    go true = refl
+    go false = refl
+
+pub one-byte : (s : Scanned) (store : List ℕ) (r : Record) (piece : List ℕ) → length piece ≡ 1
+    → scannedAs s store ≡ scanFrom 0 r (getD piece 0 0 ∷ [])
+    → _≡_ {A = Scan} (record { before = held (s .receiver) store; taken = 1; closed = s .closed }) (scanFrom 0 r piece)
+one-byte s store r [] h e = absurd (omega arith)
+one-byte s store r (b ∷ []) h e =
+    ap (λ (n : ℕ). record { before = held (s .receiver) store; taken = n; closed = s .closed })
+    (sym (ap (λ (x : Scan). x .taken) e ∙ one-taken r b)) ∙ e
+one-byte s store r (a ∷ b ∷ piece) h e = absurd (omega arith)
 
 fed-taken : (t : Bool) (r : Record) (n : ℕ) (buffer : List ℕ) → cond t (completed r n buffer) (unfinished r n buffer) .result .taken ≡ n
 fed-taken true r n buffer = refl

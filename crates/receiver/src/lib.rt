@@ -3,7 +3,8 @@ use refusal::Refusal;
 use shdlc::Checked;
 use shdlc::Kind;
 ghost use mathlib.Core.Path.{_≡_};
-ghost use mathlib.Core.Bool.{cond, _&&_, _||_};
+ghost use mathlib.Core.Bool.{false, cond, _&&_, _||_};
+ghost use mathlib.Core.List.{[], _∷_};
 ghost use mathlib.Core.Option.{none, some};
 ghost use Prim.Native.Nat.{ℕ, _≤_, _+_};
 ghost use lib.Bits.{bitXor};
@@ -13,7 +14,7 @@ ghost use Rattle.refusal.specs.Room.{overlay};
 ghost use Rattle.shdlc.specs.declared.Kind.{Kind as FrameKind};
 ghost use Rattle.shdlc.specs.Paper.{paperChecked};
 ghost use Rattle.shdlc.specs.Stuffing.{escapes, leftOf, isControl};
-ghost use Rattle.receiver.specs.Record.{held, numberOfMode, modeOf, outsideOf, lengthInRange, pendingIn, itemIn};
+ghost use Rattle.receiver.specs.Record.{held, numberOfMode, modeOf, outsideOf, lengthInRange, Store, acted, pendingIn, itemIn};
 ghost use Rattle.receiver.specs.Calls.{paperFed, paperQuiet, paperMade, freshOf, feedOf, silenceOf, completed, scannedAs, scanFrom};
 
 // Where the receiver stands: before the first 7E or after silence; in a stretch; in one after a 7D; in one with the fault of
@@ -358,6 +359,70 @@ fn scan(r: Receiver, store: &mut [u8], piece: &[u8]) -> Scanned
     }
 }
 
+// What one byte leaves that ends no stretch.
+fn stands(kind: Kind, mode: Mode, len: usize) -> Scanned
+    ensures { λ s. ⌜ s ≡ record { receiver = record { kind = kind; mode = mode; len = len }; taken = 1; closed = false } ⌝ }
+{
+    Scanned {
+        receiver: Receiver { kind, mode, len },
+        taken: 1,
+        closed: false,
+    }
+}
+
+// The same of a byte of the body, kept where the store has room for it; it leaves the same in whatever mode it is read.
+fn push(kind: Kind, len: usize, store: &mut [u8], v: u8) -> Scanned
+    requires { ⌜ length (now store) ≡ 260 ⌝ }
+    ensures { λ s. ⌜ scannedAs s (now (store .exit)) ≡ record {
+      before = acted (record { kind = kind; mode = Mode.Plain; len = len; store = now (store .entry) }) (Store v);
+      taken = 1;
+      closed = false;
+    } ⌝ }
+{
+    if len < 260 {
+        store[len] = v;
+        return stands(kind, Mode::Plain, len + 1);
+    }
+    stands(kind, Mode::Plain, 261)
+}
+
+// `scan` of a piece of one byte, without the loop: a driver that hands in each byte as it comes pays for that byte alone.
+fn scan_one(r: Receiver, store: &mut [u8], b: u8) -> Scanned
+    requires { ⌜ length (now store) ≡ 260 ⌝ }
+    ensures { λ s. ⌜ scannedAs s (now (store .exit)) ≡ scanFrom 0 (held r (now (store .entry))) (b ∷ []) ⌝ }
+{
+    let kind = r.kind;
+    let mode = r.mode;
+    let len = r.len;
+    let m = mode_number(mode);
+    if b == 0x7E {
+        if is_pending(m, len) {
+            return Scanned {
+                receiver: r,
+                taken: 1,
+                closed: true,
+            };
+        }
+        return stands(kind, Mode::Plain, 0);
+    }
+    if m == PLAIN {
+        if b == 0x7D {
+            return stands(kind, Mode::Escaped, len);
+        }
+        if is_control(b) {
+            return stands(kind, Mode::BareControl, len);
+        }
+        return push(kind, len, store, b);
+    }
+    if m == ESCAPED {
+        if is_escaped(b) {
+            return push(kind, len, store, b ^ 0x20);
+        }
+        return stands(kind, Mode::BadEscape, len);
+    }
+    stands(kind, mode, len)
+}
+
 // Takes a piece's bytes up to and including the one that completes an item, else the whole piece.
 pub fn feed(r: Receiver, store: &mut [u8], piece: &[u8], frame: &mut [u8]) -> Fed
     ensures { λ f. ⌜ paperFed f (now (store .exit)) (now (frame .exit)) ≡ feedOf (held r (now (store .entry))) (now (piece .entry)) (now (frame .entry)) ⌝ }
@@ -376,6 +441,18 @@ pub fn feed(r: Receiver, store: &mut [u8], piece: &[u8], frame: &mut [u8]) -> Fe
             receiver: r,
             taken: 0,
             answer: Answer::Refused(Refusal::NoRoom),
+        };
+    }
+    if piece.len() == 1 {
+        let o = scan_one(r, store, piece[0]);
+        let next = o.receiver;
+        if o.closed {
+            return complete(next, 1, store, frame);
+        }
+        return Fed {
+            receiver: next,
+            taken: 1,
+            answer: Answer::Nothing,
         };
     }
     let s = scan(r, store, piece);
