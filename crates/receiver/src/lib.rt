@@ -360,11 +360,15 @@ fn scan(r: Receiver, store: &mut [u8], piece: &[u8]) -> Scanned
 }
 
 // What one byte leaves that ends no stretch.
-fn stands(kind: Kind, mode: Mode, len: usize) -> Scanned
-    ensures { λ s. ⌜ s ≡ record { receiver = record { kind = kind; mode = mode; len = len }; taken = 1; closed = false } ⌝ }
+fn stands(kind: Kind, m: u8, len: usize) -> Scanned
+    ensures { λ s. ⌜ s ≡ record { receiver = record { kind = kind; mode = modeOf m; len = len }; taken = 1; closed = false } ⌝ }
 {
     Scanned {
-        receiver: Receiver { kind, mode, len },
+        receiver: Receiver {
+            kind,
+            mode: mode_of(m),
+            len,
+        },
         taken: 1,
         closed: false,
     }
@@ -381,9 +385,9 @@ fn push(kind: Kind, len: usize, store: &mut [u8], v: u8) -> Scanned
 {
     if len < 260 {
         store[len] = v;
-        return stands(kind, Mode::Plain, len + 1);
+        return stands(kind, PLAIN, len + 1);
     }
-    stands(kind, Mode::Plain, 261)
+    stands(kind, PLAIN, 261)
 }
 
 // `scan` of a piece of one byte, without the loop: a driver that hands in each byte as it comes pays for that byte alone.
@@ -398,19 +402,23 @@ fn scan_one(r: Receiver, store: &mut [u8], b: u8) -> Scanned
     if b == 0x7E {
         if is_pending(m, len) {
             return Scanned {
-                receiver: r,
+                receiver: Receiver {
+                    kind,
+                    mode: mode_of(m),
+                    len,
+                },
                 taken: 1,
                 closed: true,
             };
         }
-        return stands(kind, Mode::Plain, 0);
+        return stands(kind, PLAIN, 0);
     }
     if m == PLAIN {
         if b == 0x7D {
-            return stands(kind, Mode::Escaped, len);
+            return stands(kind, ESCAPED, len);
         }
         if is_control(b) {
-            return stands(kind, Mode::BareControl, len);
+            return stands(kind, BARE_CONTROL, len);
         }
         return push(kind, len, store, b);
     }
@@ -418,9 +426,9 @@ fn scan_one(r: Receiver, store: &mut [u8], b: u8) -> Scanned
         if is_escaped(b) {
             return push(kind, len, store, b ^ 0x20);
         }
-        return stands(kind, Mode::BadEscape, len);
+        return stands(kind, BAD_ESCAPE, len);
     }
-    stands(kind, mode, len)
+    stands(kind, m, len)
 }
 
 // Takes a piece's bytes up to and including the one that completes an item, else the whole piece.

@@ -9,20 +9,23 @@ use Rattle.receiver.specs.declared.Mode.the-variants.{Plain, Escaped, Ba
 use Rattle.receiver.specs.declared.Receiver.{Receiver}
 use Rattle.receiver.specs.declared.Scanned.{Scanned}
 use Rattle.receiver.specs.Record.{held, numberOfMode, modeOf, Store, Become, actOf, acted, pendingIn}
-use Rattle.receiver.specs.Calls.{scannedAs, scanFrom}
+use Rattle.receiver.specs.Calls.{Scan, scannedAs, scanFrom}
 use Rattle.receiver.proofs.Modes.{mode-back, pending-by-number, act-escape, act-control, act-plain, act-escaped, act-bad, act-none}
 use Rattle.receiver.proofs.Turns.{inStretch, passing, standing, stood, store-any, turn-close, turn-open, turn-act, turn-become, scan-end}
 use Rattle.receiver.proofs.scan_one.Statement.{statement}
 use Rattle.receiver.proofs.scan_one.Tie as tie
 
--- the record's mode is known by its number
+-- the record's mode is known by its number, which the code makes the mode of again where a stretch ends
 module _ (r : Receiver) {m : ℕ} (is : m ≡ numberOfMode (r .mode)) (store : List ℕ) (b : ℕ) where
   same : modeOf m ≡ r .mode
   same = ap modeOf is ∙ mode-back (r .mode)
 
-  closes : b ≡ 0x7E → pendingIn (modeOf m) (r .len) ≡ true
-      → scannedAs (record { receiver = r; taken = 1; closed = true }) store ≡ scanFrom 0 (held r store) (b ∷ [])
-  closes e p = sym (turn-close 0 (held r store) b [] e (pending-by-number (r .mode) m (r .len) is p))
+  abbrev ended : Mode → Scan
+  ended mode = record { before = record { kind = r .kind; mode = mode; len = r .len; store = store }; taken = 1; closed = true }
+
+  closes : {mode : Mode} → mode ≡ modeOf m → b ≡ 0x7E → pendingIn (modeOf m) (r .len) ≡ true
+      → ended mode ≡ scanFrom 0 (held r store) (b ∷ [])
+  closes f e p = ap ended (f ∙ same) ∙ sym (turn-close 0 (held r store) b [] e (pending-by-number (r .mode) m (r .len) is p))
 
   module _ {s : Scanned} where
     opens : s ≡ standing (r .kind) Plain 0 → b ≡ 0x7E → pendingIn (modeOf m) (r .len) ≡ false
@@ -38,10 +41,6 @@ module _ (r : Receiver) {m : ℕ} (is : m ≡ numberOfMode (r .mode)) (store : L
           stood store f
           ∙ sym (turn-become 0 (held r store) b [] no-end mode (subst (λ (x : Mode). actOf x b ≡ Become mode) same p) ∙ scan-end 1 _)
 
-      stays : s ≡ standing (r .kind) (r .mode) (r .len) → actOf (modeOf m) b ≡ Become (modeOf m)
-          → scannedAs s store ≡ scanFrom 0 (held r store) (b ∷ [])
-      stays f p = becomes (modeOf m) (f ∙ ap (λ (x : Mode). standing (r .kind) x (r .len)) (sym same)) p
-
       keeps : {after : List ℕ} (v : ℕ) → scannedAs s after ≡ passing (acted (inStretch (r .kind) (r .len) store) (Store v))
           → actOf (modeOf m) b ≡ Store v → scannedAs s after ≡ scanFrom 0 (held r store) (b ∷ [])
       keeps v f p =
@@ -54,10 +53,11 @@ scan-one-spec =
     (tie.spec
     (λ c κs. search needs)
     (λ c κs. search needs)
+    (λ c κs. search needs)
     (λ c.
-    let p = c .before in
+    let p = c .before .before in
     let n = p .before .before in
-    closes _ (n .mode-number .ensures) _ _ (p .before .if1 .taken) (sym (p .is-pending .ensures) ∙ c .if2 .taken))
+    closes _ (n .mode-number .ensures) _ _ (c .mode-of .ensures) (p .before .if1 .taken) (sym (p .is-pending .ensures) ∙ c .before .if2 .taken))
     (λ c κs. search needs)
     (λ c.
     let p = c .before .before in
@@ -101,5 +101,5 @@ scan-one-spec =
     (λ c κs. search needs)
     (λ c.
     let e = c .before .before .before in
-    stays _ (e .before .mode-number .ensures) _ _ (e .if1 .left) (c .stands5 .ensures)
+    becomes _ (e .before .mode-number .ensures) _ _ (e .if1 .left) _ (c .stands5 .ensures)
     (act-none _ _ (c .before .before .if3 .left) (c .before .if6 .left))))
