@@ -12,9 +12,10 @@ use Rattle.refusal.specs.Refusals.{numberOf, paper, refused}
 use Rattle.refusal.specs.Room.{overlay}
 use Rattle.refusal.specs.declared.Refusal.{Refusal}
 use Rattle.shdlc.specs.declared.Kind.{Kind}
+use Rattle.shdlc.specs.declared.Kind.the-variants.{Request, Reply}
 use Rattle.receiver.specs.declared.Mode.{Mode}
 use Rattle.receiver.specs.declared.Receiver.{Receiver}
-use Rattle.receiver.specs.Record.{held, numberOfMode}
+use Rattle.receiver.specs.Record.{Record, held, numberOfMode}
 use Rattle.receiver.specs.Calls.{gave}
 use Rattle.mfc.specs.declared.answers.MfcFed.{MfcFed}
 use Rattle.mfc.specs.declared.receivers.KindAt.{KindAt}
@@ -69,18 +70,53 @@ loaded-long lent {l} {r} e is = go (ltb (length lent) 264) refl (sym (ap (λ (x 
     go true h f = absurd (let z : _≡_ {A = ℕ} 0 1 = cc in omega arith)
     go false h f = ltb-false (length lent) 264 h
 
--- four stores at the start
-four : (l : List ℕ) (a b c d : ℕ) → 4 ≤ length l → set (set (set (set l 0 a) 1 b) 2 c) 3 d ≡ overlay l 0 (a ∷ b ∷ c ∷ d ∷ [])
-unfolding overlay
-four [] a b c d h = absurd (omega arith)
-four (x ∷ []) a b c d h = absurd (omega arith)
-four (x ∷ y ∷ []) a b c d h = absurd (omega arith)
-four (x ∷ y ∷ z ∷ []) a b c d h = absurd (omega arith)
-four (x ∷ y ∷ z ∷ w ∷ l) a b c d h = refl
+-- the number of its kind is its first byte
+number-at : (n : ℕ) (kind : Kind) → some kind ≡ kindAt n → numberOfKind kind ≡ n
+number-at zero kind e = let k : kind ≡ Request = cc in rw k
+number-at (suc zero) kind e = let k : kind ≡ Reply = cc in rw k
+number-at (suc (suc n)) kind e = absurd (let z : _≡_ {A = ℕ} 0 1 = cc in omega arith)
 
-pub head-put : (l : List ℕ) (kind : Kind) (mode : Mode) (len : ℕ) {a b c d : ℕ} → 4 ≤ length l → a ≡ numberOfKind kind → b ≡ numberOfMode mode
-    → c ≡ len / 256 % 256 → d ≡ len % 256 → set (set (set (set l 0 a) 1 b) 2 c) 3 d ≡ overlay l 0 (headOf kind mode len)
-head-put l kind mode len h e f g i = rw (e, f, g, i) (four l (numberOfKind kind) (numberOfMode mode) (len / 256 % 256) (len % 256) h)
+abbrev kindIn : Option Record → Option Kind
+kindIn none = none
+kindIn (some r) = some (r .kind)
+
+pub loaded-kind : (lent : List ℕ) {l : Loaded} {r : Receiver} → paperLoaded l (storeIn lent) ≡ recordIn lent → l ≡ loaded.Held r
+    → numberOfKind (r .kind) ≡ getD lent 0 0
+unfolding recordIn
+loaded-kind lent {l} {r} e is =
+    number-at (getD lent 0 0) (r .kind)
+    (go (ltb (length lent) 264) (kindAt (getD lent 0 0)) (modeAt (getD lent 1 0)) (sym (ap (λ (x : Loaded). paperLoaded x (storeIn lent)) is) ∙ e))
+  where
+    go : (t : Bool) (k : Option Kind) (m : Option Mode)
+        → some (held r (storeIn lent)) ≡ cond t none (recordOf k m (getD lent 2 0 * 256 + getD lent 3 0) (storeIn lent)) → some (r .kind) ≡ k
+    go true k m f = absurd (let z : _≡_ {A = ℕ} 0 1 = cc in omega arith)
+    go false none m f = absurd (let z : _≡_ {A = ℕ} 0 1 = cc in omega arith)
+    go false (some kind) none f = absurd (let z : _≡_ {A = ℕ} 0 1 = cc in omega arith)
+    go false (some kind) (some mode) f = ap kindIn f
+
+-- three stores after the first byte
+three : (l : List ℕ) (b c d : ℕ) → 4 ≤ length l → set (set (set l 1 b) 2 c) 3 d ≡ overlay l 1 (b ∷ c ∷ d ∷ [])
+unfolding overlay
+three [] b c d h = absurd (omega arith)
+three (x ∷ []) b c d h = absurd (omega arith)
+three (x ∷ y ∷ []) b c d h = absurd (omega arith)
+three (x ∷ y ∷ z ∷ []) b c d h = absurd (omega arith)
+three (x ∷ y ∷ z ∷ w ∷ l) b c d h = refl
+
+-- a record's mode and length, as its bytes have them after the kind
+abbrev pub placeOf : Mode → ℕ → List ℕ
+placeOf mode len = numberOfMode mode ∷ len / 256 % 256 ∷ len % 256 ∷ []
+
+pub place-put : (l : List ℕ) (r : Receiver) {b c d : ℕ} → 4 ≤ length l → b ≡ numberOfMode (r .mode) → c ≡ r .len / 256 % 256 → d ≡ r .len % 256
+    → set (set (set l 1 b) 2 c) 3 d ≡ overlay l 1 (placeOf (r .mode) (r .len))
+place-put l r h e f g = rw (e, f, g) (three l (numberOfMode (r .mode)) (r .len / 256 % 256) (r .len % 256) h)
+
+-- the kind and then the place make the head
+pub head-put : (l : List ℕ) (r : Receiver) {a : ℕ} {after : List ℕ} → 4 ≤ length l → a ≡ numberOfKind (r .kind)
+    → after ≡ overlay (set l 0 a) 1 (placeOf (r .mode) (r .len)) → after ≡ overlay l 0 (headOf (r .kind) (r .mode) (r .len))
+unfolding overlay
+head-put [] r h e f = absurd (omega arith)
+head-put (x ∷ l) r h e f = rw e at f
 
 pub fed-refused : (r : Refusal) (taken : ℕ) {n : ℕ} → n ≡ numberOf r
     → _≡_ {A = MfcFed} (record { refusal = n; «frame_length» = 0; taken = taken }) (fed (gave (refused (paper r))) taken)

@@ -5,7 +5,7 @@ use mathlib.Core.Option.{Option}
 use Prim.Native.Nat.{ℕ, _+_, _≤_, _<_}
 use native.Mathlib.Omega.{arith}
 use borrow.Author.Tests.{lt-ltb, le-ltb, eq-eqb}
-use lib.ListN.{length, take, drop, replicate, length-take, length-drop, take-append-drop}
+use lib.ListN.{length, getD, take, drop, replicate, length-take, length-drop, take-append-drop}
 use Rattle.refusal.specs.Refusals.{numberOf, paper, Answered, served, refused}
 use Rattle.refusal.specs.Room.{overlay}
 use Rattle.refusal.specs.declared.Refusal.{Refusal}
@@ -19,12 +19,14 @@ use Rattle.receiver.specs.declared.Made.{Made}
 use Rattle.receiver.specs.declared.Made.the-variants as made
 use Rattle.receiver.specs.Record.{Record, held, fresh}
 use Rattle.receiver.specs.Calls.{gave, Outcome, paperAnswer, paperFed, paperQuiet, paperMade, freshOf, feedOf, silenceOf}
+use Rattle.receiver.proofs.Cases.{kind-fed, kind-quiet}
 use Rattle.mfc.specs.declared.answers.MfcFed.{MfcFed}
 use Rattle.mfc.specs.declared.receivers.KindAt.{KindAt}
 use Rattle.mfc.specs.declared.receivers.KindAt.the-variants as kinds
 use Rattle.mfc.specs.declared.receivers.Loaded.{Loaded}
 use Rattle.mfc.specs.declared.receivers.Loaded.the-variants as loaded
-use Rattle.mfc.specs.Receivers.{kindAt, headOf, bytesOf, storeIn, recordIn, paperKind, paperLoaded, fed, refusalIn, freshAs, freshRecord, fedBytes, feedAs, feedRecord, silenceAs, silenceRecord}
+use Rattle.mfc.specs.Receivers.{numberOfKind, kindAt, headOf, bytesOf, storeIn, recordIn, paperKind, paperLoaded, fed, refusalIn, freshAs, freshRecord, fedBytes, feedAs, feedRecord, silenceAs, silenceRecord}
+use Rattle.mfc.proofs.Heads.{placeOf, loaded-kind}
 
 -- the lent bytes with another store
 abbrev pub stored : List ℕ → List ℕ → List ℕ
@@ -49,10 +51,17 @@ store-size lent h = simp (length-take, length-drop) (omega arith)
 pub store-same : (lent : List ℕ) → stored lent (storeIn lent) ≡ lent
 store-same lent = rw (take-append-drop 260 (drop 4 lent), take-append-drop 4 lent)
 
-pub head-alone : (lent : List ℕ) (a b c d : ℕ) → 264 ≤ length lent
-    → overlay lent 0 (a ∷ b ∷ c ∷ d ∷ []) ≡ overlay lent 0 (a ∷ b ∷ c ∷ d ∷ storeIn lent)
-head-alone lent a b c d h =
-    ap (λ (l : List ℕ). overlay l 0 (a ∷ b ∷ c ∷ d ∷ [])) (sym (store-same lent)) ∙ laid lent (storeIn lent) a b c d h (store-size lent h)
+-- a mode and a length alone, where the kind stands already: with another store, and with the store as it was
+pub placed : (lent store : List ℕ) {a : ℕ} (b c d : ℕ) → a ≡ getD lent 0 0 → 264 ≤ length lent → length store ≡ 260
+    → overlay (stored lent store) 1 (b ∷ c ∷ d ∷ []) ≡ overlay lent 0 (a ∷ b ∷ c ∷ d ∷ store)
+unfolding overlay
+placed [] store b c d k h e = absurd (omega arith)
+placed (x ∷ lent) store b c d k h e = rw k (laid (x ∷ lent) store x b c d h e)
+
+pub placed-alone : (lent : List ℕ) {a : ℕ} (b c d : ℕ) → a ≡ getD lent 0 0 → 264 ≤ length lent
+    → overlay lent 1 (b ∷ c ∷ d ∷ []) ≡ overlay lent 0 (a ∷ b ∷ c ∷ d ∷ storeIn lent)
+placed-alone lent b c d k h =
+    ap (λ (l : List ℕ). overlay l 1 (b ∷ c ∷ d ∷ [])) (sym (store-same lent)) ∙ placed lent (storeIn lent) b c d k h (store-size lent h)
 
 pub stored-long : (lent store : List ℕ) → 264 ≤ length lent → 4 ≤ length (stored lent store)
 stored-long [] store h = absurd (omega arith)
@@ -66,6 +75,10 @@ module _ (lent : List ℕ) {l : Loaded} (e : paperLoaded l (storeIn lent) ≡ re
   holds : {is : Loaded} → l ≡ is → paperLoaded is (storeIn lent) ≡ recordIn lent
   holds f = sym (ap (λ (x : Loaded). paperLoaded x (storeIn lent)) f) ∙ e
 
+  -- a call that leaves the kind leaves the first byte
+  kind-stays : {r : Receiver} {kind : Kind} → l ≡ loaded.Held r → kind ≡ r .kind → numberOfKind kind ≡ getD lent 0 0
+  kind-stays is f = ap numberOfKind f ∙ loaded-kind lent e is
+
   module _ (piece frame : List ℕ) where
     pub feed-bad : {result : MfcFed} → l ≡ loaded.BadRecord → result ≡ fed (gave (refused (paper BadRecord))) 0
         → (result, lent, frame) ≡ feedRecord lent piece frame
@@ -76,12 +89,13 @@ module _ (lent : List ℕ) {l : Loaded} (e : paperLoaded l (storeIn lent) ≡ re
     pub feed-held : (f : Fed) {r : Receiver} {store after bytes : List ℕ} {result : MfcFed} → 264 ≤ length lent → l ≡ loaded.Held r
         → length store ≡ length (storeIn lent)
         → paperFed f store after ≡ feedOf (held r (storeIn lent)) piece frame
-        → bytes ≡ overlay (stored lent store) 0 (headOf (f .receiver .kind) (f .receiver .mode) (f .receiver .len))
+        → bytes ≡ overlay (stored lent store) 1 (placeOf (f .receiver .mode) (f .receiver .len))
         → result ≡ fed (paperAnswer (f .answer)) (f .taken)
         → (result, bytes, after) ≡ feedRecord lent piece frame
     unfolding feedRecord
     feed-held f {r} {store} {after} long is size g b w =
-        rw (w, b, laid lent store _ _ _ _ long (size ∙ store-size lent long))
+        let k = kind-stays is (kind-fed f store after (held r (storeIn lent)) piece frame g) in
+        rw (w, b, placed lent store _ _ _ k long (size ∙ store-size lent long))
         (ap (λ (o : Outcome). fedBytes o lent) g ∙ ap (λ (o : Option Record). feedAs o lent piece frame) (holds is))
 
   pub silence-bad : {result : ℕ} → l ≡ loaded.BadRecord → result ≡ numberOf BadRecord → (result, lent) ≡ silenceRecord lent
@@ -90,12 +104,13 @@ module _ (lent : List ℕ) {l : Loaded} (e : paperLoaded l (storeIn lent) ≡ re
 
   pub silence-held : (q : Quiet) {r : Receiver} {bytes : List ℕ} {result : ℕ} → 264 ≤ length lent → l ≡ loaded.Held r
       → paperQuiet q (storeIn lent) ≡ silenceOf (held r (storeIn lent))
-      → bytes ≡ overlay lent 0 (headOf (q .receiver .kind) (q .receiver .mode) (q .receiver .len))
+      → bytes ≡ overlay lent 1 (placeOf (q .receiver .mode) (q .receiver .len))
       → result ≡ refusalIn (paperAnswer (q .answer))
       → (result, bytes) ≡ silenceRecord lent
   unfolding silenceRecord
   silence-held q {r} long is g b w =
-      rw (w, b, head-alone lent _ _ _ _ long)
+      let k = kind-stays is (kind-quiet q (storeIn lent) (held r (storeIn lent)) g) in
+      rw (w, b, placed-alone lent _ _ _ k long)
       (ap (λ (o : Outcome). (refusalIn (o .result .said), overlay lent 0 (bytesOf (o .leaves)))) g
       ∙ ap (λ (o : Option Record). silenceAs o lent) (holds is))
 

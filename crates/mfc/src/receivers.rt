@@ -7,9 +7,11 @@ use receiver::Receiver;
 use refusal::Refusal;
 use shdlc::Kind;
 ghost use mathlib.Core.Path.{_≡_};
+ghost use mathlib.Core.List.{[], _∷_};
 ghost use Prim.Native.Nat.{_+_, _*_, _/_, _%_, _≤_};
 ghost use lib.ListN.{length};
 ghost use Rattle.refusal.specs.Room.{overlay};
+ghost use Rattle.receiver.specs.Record.{numberOfMode};
 ghost use Rattle.receiver.specs.Calls.{paperAnswer};
 ghost use Rattle.mfc.specs.Receivers.{numberOfKind, kindAt, modeAt, paperKind, paperMode, paperLoaded, headOf, storeIn, recordIn, fed, refusalIn, freshRecord, feedRecord, silenceRecord};
 
@@ -96,18 +98,26 @@ fn load(lent: &[u8]) -> Loaded
     Loaded::Held(Receiver { kind, mode, len })
 }
 
+// Puts a record's mode and length into the lent bytes; a call leaves the kind as it is.
+fn put_place(lent: &mut [u8], r: Receiver)
+    requires { ⌜ 4 ≤ length (now lent) ⌝ }
+    ensures { λ _. ⌜ now (lent .exit) ≡ overlay (now (lent .entry)) 1 (numberOfMode (r .mode) ∷ r .len / 256 % 256 ∷ r .len % 256 ∷ []) ⌝ }
+{
+    let mode = r.mode;
+    let len = r.len;
+    lent[1] = receiver::mode_number(mode);
+    lent[2] = high(len);
+    lent[3] = low(len);
+}
+
 // Puts a record, its store aside, into the lent bytes.
 fn put_head(lent: &mut [u8], r: Receiver)
     requires { ⌜ 4 ≤ length (now lent) ⌝ }
     ensures { λ _. ⌜ now (lent .exit) ≡ overlay (now (lent .entry)) 0 (headOf (r .kind) (r .mode) (r .len)) ⌝ }
 {
     let kind = r.kind;
-    let mode = r.mode;
-    let len = r.len;
     lent[0] = kind_number(kind);
-    lent[1] = receiver::mode_number(mode);
-    lent[2] = high(len);
-    lent[3] = low(len);
+    put_place(lent, r);
 }
 
 fn of_answer(answer: Answer, taken: usize) -> MfcFed
@@ -179,7 +189,7 @@ pub extern "C" fn mfc_feed(record: &mut [u8], piece: &[u8], frame: &mut [u8]) ->
     let next = f.receiver;
     let taken = f.taken;
     let answer = f.answer;
-    put_head(record, next);
+    put_place(record, next);
     of_answer(answer, taken)
 }
 
@@ -196,6 +206,6 @@ pub extern "C" fn mfc_silence(record: &mut [u8]) -> u8
     let q = receiver::silence(r, &record[4..264]);
     let next = q.receiver;
     let answer = q.answer;
-    put_head(record, next);
+    put_place(record, next);
     refusal_in(answer)
 }

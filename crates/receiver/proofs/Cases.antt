@@ -6,7 +6,7 @@ use mathlib.Core.Bool.{Bool, true, false, cond, not, _&&_, false≢true}
 use mathlib.Core.List.{List, [], _∷_}
 use borrow.Author.Tests.{ltb-false, lt-ltb, le-ltb, eqb-true}
 use lib.Dec.{ltb, eqb}
-use lib.ListN.{length, take}
+use lib.ListN.{length, getD, take}
 use Rattle.refusal.specs.Refusals.{Numbered, number, Answered, served, refused}
 use Rattle.refusal.specs.Room.{overlay}
 use Rattle.refusal.proofs.Order.{refused-not-served, passed}
@@ -17,8 +17,10 @@ use Rattle.receiver.specs.declared.Mode.{Mode}
 use Rattle.receiver.specs.declared.Mode.the-variants.{Outside, Plain, Escaped, BadEscape, BareControl}
 use Rattle.receiver.specs.declared.Receiver.{Receiver}
 use Rattle.receiver.specs.declared.Fed.{Fed}
-use Rattle.receiver.specs.Record.{Record, held, outsideOf, lengthInRange, inRange, opened, silenced, pending, itemIn, itemOf, nextByte}
-use Rattle.receiver.specs.Calls.{Said, nothing, gave, Outcome, saidOf, bufferOf, Scan, paperFed, refusedCall, completed, unfinished, closes, scanFrom, fedBy, feedOf, silenceOf}
+use Rattle.receiver.specs.declared.Scanned.{Scanned}
+use Rattle.receiver.specs.declared.Quiet.{Quiet}
+use Rattle.receiver.specs.Record.{Record, held, outsideOf, lengthInRange, inRange, Act, Store, Become, actOf, pushed, acted, opened, silenced, pending, itemIn, itemOf, nextByte}
+use Rattle.receiver.specs.Calls.{Said, nothing, gave, Outcome, saidOf, bufferOf, Scan, scannedAs, paperFed, paperQuiet, refusedCall, completed, unfinished, closes, scanFrom, fedBy, feedOf, silenceOf}
 
 -- a test of the code that is negated
 pub not-true : (t : Bool) → not t ≡ true → t ≡ false
@@ -105,35 +107,81 @@ module _ (r : Record) (taken : ℕ) (buffer : List ℕ) where
       → completed r taken buffer ≡ record { leaves = opened r; result = record { said = gave (refused n); taken = taken; buffer = buffer } }
   completed-refused n e = ap (shown r taken buffer) e
 
--- no more bytes are taken than the piece has
-scan-taken-test : (t : Bool) (a b : Scan) (n : ℕ) → a .taken ≤ n → b .taken ≤ n → cond t a b .taken ≤ n
-scan-taken-test true a b n p q = p
-scan-taken-test false a b n p q = q
+-- what holds of both outcomes of a test holds of what it gives
+by-test : {A : Type 0} (P : A → Type 0) (t : Bool) {a b : A} → P a → P b → P (cond t a b)
+by-test P true p q = p
+by-test P false p q = q
 
+-- no more bytes are taken than the piece has
 scan-taken : (piece : List ℕ) (n : ℕ) (r : Record) → scanFrom n r piece .taken ≤ n + length piece
 unfolding scanFrom
 scan-taken [] n r = omega arith
 scan-taken (b ∷ piece) n r =
-    scan-taken-test (closes r b) (record { before = r; taken = n + 1; closed = true }) (scanFrom (n + 1) (nextByte r b) piece) (n + length (b ∷ piece))
-    (omega arith) (omega (arith, scan-taken piece (n + 1) (nextByte r b)))
-
-fed-taken : (t : Bool) (r : Record) (n : ℕ) (buffer : List ℕ) → cond t (completed r n buffer) (unfinished r n buffer) .result .taken ≡ n
-fed-taken true r n buffer = refl
-fed-taken false r n buffer = refl
+    by-test (λ (s : Scan). s .taken ≤ n + length (b ∷ piece)) (closes r b) (omega arith) (omega (arith, scan-taken piece (n + 1) (nextByte r b)))
 
 feed-taken : (r : Record) (piece buffer : List ℕ) → feedOf r piece buffer .result .taken ≤ length piece
 unfolding feedOf
-feed-taken r piece buffer = go (inRange r) (ltb (length buffer) 260)
-  where
-    go : (t u : Bool)
-        → cond t (cond u (refusedCall 1 r buffer) (fedBy (scanFrom 0 r piece) buffer)) (refusedCall 2 r buffer) .result .taken ≤ length piece
-    go true true = omega arith
-    go true false =
-        let s = scanFrom 0 r piece in omega (arith, fed-taken (s .closed) (s .before) (s .taken) buffer, scan-taken piece 0 r)
-    go false u = omega arith
+feed-taken r piece buffer =
+    let within : Outcome → Type 0 = λ o. o .result .taken ≤ length piece in
+    let s = scanFrom 0 r piece in
+    let h : s .taken ≤ length piece = omega (arith, scan-taken piece 0 r) in
+    by-test within (inRange r) (by-test within (ltb (length buffer) 260) (omega arith) (by-test within (s .closed) h h)) (omega arith)
 
 -- the same, as a caller of `feed` has it from the contract
 pub taken-within : (f : Fed) (store after : List ℕ) (r : Record) (piece buffer : List ℕ) → paperFed f store after ≡ feedOf r piece buffer
     → f .taken ≤ length piece
 taken-within f store after r piece buffer e =
     let t : f .taken ≡ feedOf r piece buffer .result .taken = ap (λ (x : Outcome). x .result .taken) e in omega (arith, feed-taken r piece buffer)
+
+-- a piece of one byte is taken whole
+one-taken : (r : Record) (b : ℕ) → scanFrom 0 r (b ∷ []) .taken ≡ 1
+unfolding scanFrom
+one-taken r b = by-test (λ (s : Scan). s .taken ≡ 1) (closes r b) refl refl
+
+pub one-byte : (s : Scanned) (store : List ℕ) (r : Record) (piece : List ℕ) → length piece ≡ 1
+    → scannedAs s store ≡ scanFrom 0 r (getD piece 0 0 ∷ [])
+    → _≡_ {A = Scan} (record { before = held (s .receiver) store; taken = 1; closed = s .closed }) (scanFrom 0 r piece)
+one-byte s store r [] h e = absurd (omega arith)
+one-byte s store r (b ∷ []) h e =
+    ap (λ (n : ℕ). record { before = held (s .receiver) store; taken = n; closed = s .closed })
+    (sym (ap (λ (x : Scan). x .taken) e ∙ one-taken r b)) ∙ e
+one-byte s store r (a ∷ b ∷ piece) h e = absurd (omega arith)
+
+-- no call changes the kind
+pub kind-acted : (r : Record) (a : Act) → acted r a .kind ≡ r .kind
+unfolding acted
+kind-acted r (Store b) = go (ltb (r .len) 260)
+  where
+    go : (t : Bool) → pushed t r b .kind ≡ r .kind
+    go true = refl
+    go false = refl
+kind-acted r (Become m) = refl
+
+kind-next : (r : Record) (b : ℕ) → nextByte r b .kind ≡ r .kind
+unfolding nextByte
+kind-next r b = by-test (λ (x : Record). x .kind ≡ r .kind) (eqb b 0x7E) refl (kind-acted r (actOf (r .mode) b))
+
+kind-scan : (piece : List ℕ) (n : ℕ) (r : Record) → scanFrom n r piece .before .kind ≡ r .kind
+unfolding scanFrom
+kind-scan [] n r = refl
+kind-scan (b ∷ piece) n r =
+    by-test (λ (s : Scan). s .before .kind ≡ r .kind) (closes r b) refl (kind-scan piece (n + 1) (nextByte r b) ∙ kind-next r b)
+
+kind-feed : (r : Record) (piece buffer : List ℕ) → feedOf r piece buffer .leaves .kind ≡ r .kind
+unfolding feedOf
+kind-feed r piece buffer =
+    let kept : Outcome → Type 0 = λ o. o .leaves .kind ≡ r .kind in
+    let h = kind-scan piece 0 r in
+    by-test kept (inRange r) (by-test kept (ltb (length buffer) 260) refl (by-test kept (scanFrom 0 r piece .closed) h h)) refl
+
+kind-silence : (r : Record) → silenceOf r .leaves .kind ≡ r .kind
+unfolding silenceOf
+kind-silence r = by-test (λ (o : Outcome). o .leaves .kind ≡ r .kind) (inRange r) refl refl
+
+-- the same, as a caller has it from the contracts
+pub kind-fed : (f : Fed) (store after : List ℕ) (r : Record) (piece buffer : List ℕ) → paperFed f store after ≡ feedOf r piece buffer
+    → f .receiver .kind ≡ r .kind
+kind-fed f store after r piece buffer e = ap (λ (x : Outcome). x .leaves .kind) e ∙ kind-feed r piece buffer
+
+pub kind-quiet : (q : Quiet) (store : List ℕ) (r : Record) → paperQuiet q store ≡ silenceOf r → q .receiver .kind ≡ r .kind
+kind-quiet q store r e = ap (λ (x : Outcome). x .leaves .kind) e ∙ kind-silence r

@@ -21,6 +21,7 @@ use Rattle.shdlc.proofs.Body.{body-long}
 use Rattle.receiver.specs.declared.Mode.{Mode}
 use Rattle.receiver.specs.declared.Mode.the-variants.{Outside, Plain, Escaped, BadEscape, BareControl}
 use Rattle.receiver.specs.Record.{Record, lengthInRange, inRange, fresh, Act, Store, Become, unescape, actOf, pushed, acted, opened, silenced, pendingIn, pending, itemIn, itemOf, nextByte, nextRecord}
+use Rattle.receiver.proofs.Cases.{kind-acted}
 
 -- a stretch read so far: the mode and the whole unstuffed body, of any length
 pub record Progress : Type 0 where
@@ -297,15 +298,6 @@ pub at-range : (kind : Kind) (place : Place) (r : Record) → At kind place r �
 at-range kind place r h =
     both (eqb (length (r .store)) 260) (lengthInRange (r .mode) (r .len)) (eq-eqb (length (r .store)) 260 (at-size kind place r h))
     (length-at kind place r h)
-
-kind-pushed : (t : Bool) (r : Record) (b : ℕ) → pushed t r b .kind ≡ r .kind
-kind-pushed true r b = refl
-kind-pushed false r b = refl
-
-kind-acted : (r : Record) (a : Act) → acted r a .kind ≡ r .kind
-unfolding acted
-kind-acted r (Store b) = kind-pushed (ltb (r .len) 260) r b
-kind-acted r (Become m) = refl
 
 at-byte : (t : Bool) (kind : Kind) (place : Place) (r : Record) (b : ℕ) → At kind place r
     → At kind (Stream.nextByte t b place) (cond t (opened r) (acted r (actOf (r .mode) b)))

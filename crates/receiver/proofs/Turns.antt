@@ -6,7 +6,7 @@ use mathlib.Core.Bool.{Bool, true, false, cond, _||_, false≢true}
 use mathlib.Core.List.{List, [], _∷_}
 use native.Mathlib.Nat.{add-zero, add-assoc}
 use borrow.Author.Tests.{lt-ltb, le-ltb, ne-eqb, eq-eqb, eqb-false}
-use lib.Dec.{eqb}
+use lib.Dec.{ltb, eqb}
 use lib.ListN.{length, getD, take, drop, set, length-drop}
 use lib.Seq.{take-all, drop-drop}
 use Rattle.shdlc.specs.declared.Kind.{Kind}
@@ -14,13 +14,25 @@ use Rattle.shdlc.specs.Stuffing.{isControl}
 use Rattle.refusal.proofs.Rest.{rest-here, rest-end}
 use Rattle.receiver.specs.declared.Mode.{Mode}
 use Rattle.receiver.specs.declared.Mode.the-variants.{Plain, Escaped, BareControl}
-use Rattle.receiver.specs.Record.{Record, Act, Store, Become, actOf, acted, opened, pending, nextByte}
-use Rattle.receiver.specs.Calls.{Scan, scanFrom}
+use Rattle.receiver.specs.Record.{Record, Act, Store, Become, actOf, pushed, acted, opened, pending, nextByte}
+use Rattle.receiver.specs.declared.Scanned.{Scanned}
+use Rattle.receiver.specs.Calls.{Scan, scannedAs, scanFrom}
 use Rattle.receiver.proofs.Bytes.{special}
 
 -- in a stretch without a fault, n bytes held
 abbrev pub inStretch : Kind → ℕ → List ℕ → Record
 inStretch kind n store = record { kind = kind; mode = Plain; len = n; store = store }
+
+-- what one byte leaves that ends no stretch, and the struct that the code makes of it
+abbrev pub passing : Record → Scan
+passing r = record { before = r; taken = 1; closed = false }
+
+abbrev pub standing : Kind → Mode → ℕ → Scanned
+standing kind mode len = record { receiver = record { kind = kind; mode = mode; len = len }; taken = 1; closed = false }
+
+pub stood : {s : Scanned} {kind : Kind} {mode : Mode} {len : ℕ} (store : List ℕ) → s ≡ standing kind mode len
+    → scannedAs s store ≡ passing (record { kind = kind; mode = mode; len = len; store = store })
+stood store e = ap (λ (s : Scanned). scannedAs s store) e
 
 -- the first n bytes of a piece are stored one after the other in a stretch: to scan the piece is to scan what is left of it
 abbrev pub Runs : List ℕ → ℕ → List ℕ → List ℕ → ℕ → Type 0
@@ -34,9 +46,19 @@ module _ (r : Record) (b : ℕ) where
   unfolding acted
   store-room h = rw (lt-ltb (r .len) 260 h)
 
-  store-full : 260 ≤ r .len → acted r (Store b) ≡ record { kind = r .kind; mode = Plain; len = 261; store = r .store }
+  pub store-full : 260 ≤ r .len → acted r (Store b) ≡ record { kind = r .kind; mode = Plain; len = 261; store = r .store }
   unfolding acted
   store-full h = rw (le-ltb (r .len) 260 h)
+
+-- a byte of the body leaves the same in whatever mode it is read
+pub store-any : (kind : Kind) (mode : Mode) (n : ℕ) (store : List ℕ) (b : ℕ)
+    → acted (inStretch kind n store) (Store b) ≡ acted (record { kind = kind; mode = mode; len = n; store = store }) (Store b)
+unfolding acted
+store-any kind mode n store b = go (ltb n 260)
+  where
+    go : (t : Bool) → pushed t (inStretch kind n store) b ≡ pushed t (record { kind = kind; mode = mode; len = n; store = store }) b
+    go true = refl
+    go false = refl
 
 module _ (n : ℕ) (r : Record) (b : ℕ) (piece : List ℕ) where
   pub turn-close : b ≡ 0x7E → pending r ≡ true → scanFrom n r (b ∷ piece) ≡ record { before = r; taken = n + 1; closed = true }
@@ -47,7 +69,7 @@ module _ (n : ℕ) (r : Record) (b : ℕ) (piece : List ℕ) where
   unfolding scanFrom nextByte
   turn-open e p = simp (eq-eqb b 0x7E e, p)
 
-  turn-act : (b ≡ 0x7E → ⊥) → (a : Act) → actOf (r .mode) b ≡ a → scanFrom n r (b ∷ piece) ≡ scanFrom (n + 1) (acted r a) piece
+  pub turn-act : (b ≡ 0x7E → ⊥) → (a : Act) → actOf (r .mode) b ≡ a → scanFrom n r (b ∷ piece) ≡ scanFrom (n + 1) (acted r a) piece
   unfolding scanFrom nextByte
   turn-act e a p = simp (ne-eqb b 0x7E e) (ap (λ (x : Act). scanFrom (n + 1) (acted r x) piece) p)
 
@@ -71,7 +93,7 @@ pub scan-next : (start r : Record) (piece : List ℕ) (i : ℕ) {x : Scan} → i
     → scanFrom 0 start piece ≡ x
 scan-next start r piece i h e q = e ∙ ap (scanFrom i r) (rest-here piece i h) ∙ q
 
-scan-end : (n : ℕ) (r : Record) → scanFrom n r [] ≡ record { before = r; taken = n; closed = false }
+pub scan-end : (n : ℕ) (r : Record) → scanFrom n r [] ≡ record { before = r; taken = n; closed = false }
 unfolding scanFrom
 scan-end n r = refl
 

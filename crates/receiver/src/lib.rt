@@ -3,7 +3,8 @@ use refusal::Refusal;
 use shdlc::Checked;
 use shdlc::Kind;
 ghost use mathlib.Core.Path.{_≡_};
-ghost use mathlib.Core.Bool.{cond, _&&_, _||_};
+ghost use mathlib.Core.Bool.{false, cond, _&&_, _||_};
+ghost use mathlib.Core.List.{[], _∷_};
 ghost use mathlib.Core.Option.{none, some};
 ghost use Prim.Native.Nat.{ℕ, _≤_, _+_};
 ghost use lib.Bits.{bitXor};
@@ -13,7 +14,7 @@ ghost use Rattle.refusal.specs.Room.{overlay};
 ghost use Rattle.shdlc.specs.declared.Kind.{Kind as FrameKind};
 ghost use Rattle.shdlc.specs.Paper.{paperChecked};
 ghost use Rattle.shdlc.specs.Stuffing.{escapes, leftOf, isControl};
-ghost use Rattle.receiver.specs.Record.{held, numberOfMode, modeOf, outsideOf, lengthInRange, pendingIn, itemIn};
+ghost use Rattle.receiver.specs.Record.{held, numberOfMode, modeOf, outsideOf, lengthInRange, Store, acted, pendingIn, itemIn};
 ghost use Rattle.receiver.specs.Calls.{paperFed, paperQuiet, paperMade, freshOf, feedOf, silenceOf, completed, scannedAs, scanFrom};
 
 // Where the receiver stands: before the first 7E or after silence; in a stretch; in one after a 7D; in one with the fault of
@@ -148,9 +149,15 @@ fn is_pending(m: u8, len: usize) -> bool
 fn length_in_range(mode: Mode, len: usize) -> bool
     ensures { λ r. ⌜ r ≡ lengthInRange mode len ⌝ }
 {
+    if 261 < len {
+        return false;
+    }
+    if len == 0 {
+        return true;
+    }
     match mode {
-        Mode::Outside => len == 0,
-        Mode::Plain | Mode::Escaped | Mode::BadEscape | Mode::BareControl => len < 262,
+        Mode::Outside => false,
+        Mode::Plain | Mode::Escaped | Mode::BadEscape | Mode::BareControl => true,
     }
 }
 
@@ -352,6 +359,78 @@ fn scan(r: Receiver, store: &mut [u8], piece: &[u8]) -> Scanned
     }
 }
 
+// What one byte leaves that ends no stretch.
+fn stands(kind: Kind, m: u8, len: usize) -> Scanned
+    ensures { λ s. ⌜ s ≡ record { receiver = record { kind = kind; mode = modeOf m; len = len }; taken = 1; closed = false } ⌝ }
+{
+    Scanned {
+        receiver: Receiver {
+            kind,
+            mode: mode_of(m),
+            len,
+        },
+        taken: 1,
+        closed: false,
+    }
+}
+
+// The same of a byte of the body, kept where the store has room for it; it leaves the same in whatever mode it is read.
+fn push(kind: Kind, len: usize, store: &mut [u8], v: u8) -> Scanned
+    requires { ⌜ length (now store) ≡ 260 ⌝ }
+    ensures { λ s. ⌜ scannedAs s (now (store .exit)) ≡ record {
+      before = acted (record { kind = kind; mode = Mode.Plain; len = len; store = now (store .entry) }) (Store v);
+      taken = 1;
+      closed = false;
+    } ⌝ }
+{
+    if len < 260 {
+        store[len] = v;
+        return stands(kind, PLAIN, len + 1);
+    }
+    stands(kind, PLAIN, 261)
+}
+
+// `scan` of a piece of one byte, without the loop: a driver that hands in each byte as it comes pays for that byte alone.
+fn scan_one(r: Receiver, store: &mut [u8], b: u8) -> Scanned
+    requires { ⌜ length (now store) ≡ 260 ⌝ }
+    ensures { λ s. ⌜ scannedAs s (now (store .exit)) ≡ scanFrom 0 (held r (now (store .entry))) (b ∷ []) ⌝ }
+{
+    let kind = r.kind;
+    let mode = r.mode;
+    let len = r.len;
+    let m = mode_number(mode);
+    if b == 0x7E {
+        if is_pending(m, len) {
+            return Scanned {
+                receiver: Receiver {
+                    kind,
+                    mode: mode_of(m),
+                    len,
+                },
+                taken: 1,
+                closed: true,
+            };
+        }
+        return stands(kind, PLAIN, 0);
+    }
+    if m == PLAIN {
+        if b == 0x7D {
+            return stands(kind, ESCAPED, len);
+        }
+        if is_control(b) {
+            return stands(kind, BARE_CONTROL, len);
+        }
+        return push(kind, len, store, b);
+    }
+    if m == ESCAPED {
+        if is_escaped(b) {
+            return push(kind, len, store, b ^ 0x20);
+        }
+        return stands(kind, BAD_ESCAPE, len);
+    }
+    stands(kind, m, len)
+}
+
 // Takes a piece's bytes up to and including the one that completes an item, else the whole piece.
 pub fn feed(r: Receiver, store: &mut [u8], piece: &[u8], frame: &mut [u8]) -> Fed
     ensures { λ f. ⌜ paperFed f (now (store .exit)) (now (frame .exit)) ≡ feedOf (held r (now (store .entry))) (now (piece .entry)) (now (frame .entry)) ⌝ }
@@ -370,6 +449,18 @@ pub fn feed(r: Receiver, store: &mut [u8], piece: &[u8], frame: &mut [u8]) -> Fe
             receiver: r,
             taken: 0,
             answer: Answer::Refused(Refusal::NoRoom),
+        };
+    }
+    if piece.len() == 1 {
+        let o = scan_one(r, store, piece[0]);
+        let next = o.receiver;
+        if o.closed {
+            return complete(next, 1, store, frame);
+        }
+        return Fed {
+            receiver: next,
+            taken: 1,
+            answer: Answer::Nothing,
         };
     }
     let s = scan(r, store, piece);

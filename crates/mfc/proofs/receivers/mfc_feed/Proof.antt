@@ -40,4 +40,4 @@ mfc-feed-spec =
     let f = p .before .before .before .before .before .before .before in
     let t = f .before .before .before in
     feed-held _ (t .before .before .before .load .ensures) _ _ (f .feed .result) (long t) (t .before .r .given .1) (f .feed .kept .1 .0)
-    (f .feed .ensures) (p .put-head .ensures) (c .of-answer2 .ensures)))
+    (f .feed .ensures) (p .put-place .ensures) (c .of-answer2 .ensures)))

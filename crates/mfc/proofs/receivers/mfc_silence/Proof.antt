@@ -32,5 +32,5 @@ mfc-silence-spec =
     let p = c .before .before .before in
     let q = p .before .before .before in
     let t = q .before .before .before in
-    silence-held _ (t .before .before .before .load .ensures) (q .silence .result) (long t) (t .before .r .given .1) (q .silence .ensures) (p .put-head .ensures)
-    (c .refusal-in .ensures)))
+    silence-held _ (t .before .before .before .load .ensures) (q .silence .result) (long t) (t .before .r .given .1) (q .silence .ensures)
+    (p .put-place .ensures) (c .refusal-in .ensures)))

@@ -1,6 +1,6 @@
 -- `mfc::receivers::put_head` meets its contract. Assumes nothing.
 use borrow.Author.Needs.{needs}
-use native.Mathlib.Omega.{arith}
+use mathlib.Core.Path.{_∙_}
 use lib.ListN.{length-set}
 use Rattle.mfc.proofs.Heads.{head-put}
 use Rattle.mfc.proofs.receivers.put_head.Statement.{statement}
@@ -13,12 +13,9 @@ put-head-spec =
     (λ c κs. search needs)
     (λ c. search needs)
     (λ c κs. search needs)
-    (λ c. simp length-set (omega arith))
-    (λ c κs. search needs)
-    (λ c. simp length-set (omega arith))
-    (λ c κs. search needs)
-    (λ c. simp length-set (omega arith))
-    (λ c. search needs)
+    (λ c. c .before .before .put-place .kept .0 ∙ simp length-set)
     (λ c.
-    let a = c .before .before .before .before .before in
-    head-put _ (a .args .r .kind) (a .args .r .mode) _ (a .pre) (c .before .before .before .kind-number .ensures) (c .before .before .mode-number .ensures) (c .before .high .ensures) (c .low .ensures)))
+    let p = c .before .before in
+    let k = p .before .before in
+    let a = k .before .before in
+    head-put _ (a .args .r) (a .pre) (k .kind-number .ensures) (p .put-place .ensures)))
