@@ -358,7 +358,7 @@ fn data_size(row: Row) -> usize
     sub_size(sub) + value_size(value)
 }
 
-// What both writers refuse before the room is looked at, in its order: 12, 13, 10, 5.
+// What is refused of a request before the room is looked at, in its order: 12, 13, 10, 5.
 fn check_row(address: u8, asked: Row) -> Checked
     ensures { λ r. ⌜ ((request : Asked) → row request ≡ asked → paperPassed (frameOf (bodyOf address asked)) r ≡ frameToWrite address request) ⌝ }
 {
@@ -642,8 +642,8 @@ fn check_baud(rate: u32) -> Checked
     Checked::Refused(Refusal::OutOfRange)
 }
 
-// What the writer refuses of the request at a place, carrying a number, before the room is looked at. It asks the number, and makes no
-// request of it first.
+// What the writer refuses of the request at a place, carrying a number, before the room is looked at: 12, 13, 10; 5 never, since no request
+// of the table has so many data bytes. It asks the number, and makes no request of it first.
 fn check_at(address: u8, place: usize, n: u32) -> Checked
     ensures { λ r. ⌜ paperPassed (frameOf (bodyOf address (row (requestAt place n)))) r ≡ frameToWrite address (requestAt place n) ⌝ }
 {
