@@ -3,13 +3,13 @@ use mathlib.Core.Path.{_≡_, refl, sym, ap, subst, _∙_}
 use mathlib.Core.Bool.{Bool, true, false, cond, not, _||_}
 use mathlib.Core.List.{List, [], _∷_, _++_}
 use mathlib.Core.Option.{Option, none, some}
-use Prim.Native.Nat.{ℕ, _-_, _/_, _%_, _^_, min, _<_}
+use Prim.Native.Nat.{ℕ, _-_, _^_, min, _<_}
 use native.Mathlib.Omega.{arith}
 use lib.Dec.{T, eqb, ltb}
 use lib.ListN.{length}
-use lib.Ieee.{Float, nan, binary32, isNan, toBits, ofBits}
-use lib.Ieee.Bits.{ofBits-toBits, toBits-lt, toBits-ofBits, nanBits-is}
-use borrow.Author.Tests.{eq-eqb, ne-eqb, eqb-true, eqb-false, ltb-true, ltb-false, not-false}
+use lib.Ieee.{Float, binary32, toBits, ofBits}
+use lib.Ieee.Bits.{ofBits-toBits, toBits-lt, toBits-ofBits}
+use borrow.Author.Tests.{eq-eqb, ne-eqb, eqb-true, eqb-false, not-false}
 use Rattle.refusal.specs.Refusals.{served}
 use Rattle.payload.specs.Field.{big, bigEndian, Bytes}
 use Rattle.payload.proofs.Big.{big-of-big-endian, big-lt, big-endian-of-big}

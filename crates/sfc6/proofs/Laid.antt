@@ -1,9 +1,8 @@
 -- A request laid down part by part, each part from the place after the one before. Assumes nothing.
 use mathlib.Core.Path.{_≡_, refl, sym, ap, subst, _∙_}
 use mathlib.Core.Logic.{inl, inr}
-use mathlib.Core.Bool.{cond}
 use mathlib.Core.List.{List, [], _∷_, _++_, append-assoc, append-nil}
-use Prim.Native.Nat.{ℕ, zero, suc, _+_, _-_, _*_, _/_, _%_, _≤_, _<_}
+use Prim.Native.Nat.{ℕ, zero, suc, _+_, _-_, _/_, _%_, _≤_, _<_}
 use native.Mathlib.Nat.{div-one}
 use native.Mathlib.Omega.{arith}
 use borrow.Author.Tests.{le-ltb, ne-eqb}
@@ -15,7 +14,7 @@ use Rattle.payload.proofs.Big.{length-big-endian}
 use Rattle.shdlc.specs.Checksum.{sum, checksumOf}
 use Rattle.shdlc.specs.Stuffing.{stuffByte, stuff}
 use Rattle.shdlc.specs.Frame.{putAt, frameOf}
-use Rattle.shdlc.proofs.Stuffing.{byte-short, stuff-append, stuff-one, stuff-short, stuff-nothing}
+use Rattle.shdlc.proofs.Stuffing.{byte-short, stuff-append, stuff-short}
 use Rattle.shdlc.proofs.Frame.{frame-parts, frame-length, sum-append}
 use Rattle.sfc6.specs.declared.Subcommand.{Subcommand}
 use Rattle.sfc6.specs.declared.Subcommand.the-variants as sub

@@ -1,9 +1,8 @@
 -- The requests one by one: no command and no subcommand of the table is a byte that is stuffed, and each is the request at its number
 -- with the number that it carries. Assumes nothing.
 use mathlib.Core.Path.{_≡_, refl, ap, _∙_}
-use mathlib.Core.List.{List, [], _∷_, _++_}
+use mathlib.Core.List.{[], _∷_, _++_}
 use Prim.Native.Nat.{ℕ, _≤_}
-use native.Mathlib.Omega.{arith}
 use lib.ListN.{length, take}
 use Rattle.payload.specs.Field.{bigEndian}
 use Rattle.shdlc.specs.Checksum.{sum}
@@ -13,7 +12,7 @@ use Rattle.sfc6.specs.declared.Request.the-variants.{GetSetpoint, SetSet
 use Rattle.sfc6.specs.declared.Row.{Row}
 use Rattle.sfc6.specs.declared.Value.{Value}
 use Rattle.sfc6.specs.declared.Value.the-variants as value
-use Rattle.sfc6.specs.Commands.{row, requestAt, placeOf, valueIn, valueOf}
+use Rattle.sfc6.specs.Commands.{row, placeOf, valueIn, valueOf}
 use Rattle.sfc6.specs.Requests.{subBytes, valueBytes, dataOf, bodyWith, bodyOf, bodyAt, Sized}
 use Rattle.sfc6.proofs.Laid.{sub-short, sub-taken, value-sized}
 

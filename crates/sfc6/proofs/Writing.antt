@@ -158,12 +158,7 @@ emit-laid bytes room n = go (ltb (length room) (length bytes)) refl
     go true e h = never (sym h)
     go false e h = (cc, refl, ltb-false _ _ e)
 
--- a frame into the room left: where it is refused, all is as it was
-pub append-refused : (buffer : List ℕ) (start address : ℕ) (request : Request) {n : Numbered}
-    → (refused n, drop start buffer) ≡ writeRequest address request (drop start buffer) → (refused n, buffer) ≡ appendRequest buffer start address request
-unfolding appendRequest
-append-refused buffer start address request e = rw (← e, take-append-drop start buffer)
-
+-- a frame into the room left
 module _ (buffer : List ℕ) (start end : ℕ) where
   -- where the room starts: at the place asked for, or at the end where that is past it
   abbrev pub Starts : Type 0

@@ -1,5 +1,4 @@
 -- `sfc6::check_address` meets its contract. Assumes nothing.
-use borrow.Author.Needs.{needs}
 use borrow.Author.Tests.{lt-ltb, le-ltb, eq-eqb, ne-eqb}
 use Rattle.sfc6.proofs.check_address.Statement.{statement}
 use Rattle.sfc6.proofs.check_address.Tie as tie

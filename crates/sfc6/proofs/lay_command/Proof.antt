@@ -1,15 +1,9 @@
 -- `sfc6::lay_command` meets its contract: the frame is laid down part by part. Assumes nothing.
 use borrow.Author.Needs.{needs}
 use native.Mathlib.Omega.{arith}
-use mathlib.Core.Path.{_≡_, sym}
-use mathlib.Core.List.{List, [], _∷_, _++_}
-use Prim.Native.Nat.{ℕ, _+_, _≤_, _<_}
-use lib.ListN.{length, take}
-use Rattle.payload.specs.Field.{bigEndian}
-use Rattle.shdlc.specs.Stuffing.{stuffByte, stuff}
-use Rattle.shdlc.proofs.Stuffing.{byte-short}
-use Rattle.sfc6.specs.Requests.{Sized}
-use Rattle.sfc6.proofs.Laid.{Wrote, front, front-short, sized-most, sized-short, taken-short, command-wrote, frame-short}
+use Prim.Native.Nat.{_+_, _≤_}
+use lib.ListN.{length}
+use Rattle.sfc6.proofs.Laid.{front, front-short, sized-most, sized-short, taken-short, command-wrote, frame-short}
 use Rattle.sfc6.proofs.lay_command.Statement.{statement}
 use Rattle.sfc6.proofs.lay_command.Tie as tie
 

@@ -1,7 +1,7 @@
 -- `sfc6::lay_numbered` meets its contract. Assumes nothing.
 use borrow.Author.Needs.{needs}
 use native.Mathlib.Omega.{arith}
-use mathlib.Core.Path.{_≡_, sym}
+use mathlib.Core.Path.{sym}
 use lib.Seq.{length-take-le}
 use Rattle.sfc6.proofs.Writing.{frame-stands, frame-copied, frame-long}
 use Rattle.sfc6.proofs.lay_numbered.Statement.{statement}

@@ -1,7 +1,7 @@
 -- `sfc6::place_of` meets its contract: each arm knows which request it is. Assumes nothing.
 use borrow.Author.Needs.{needs}
 use native.Mathlib.Omega.{arith}
-use mathlib.Core.Path.{_≡_, refl}
+use mathlib.Core.Path.{refl}
 use Rattle.sfc6.specs.Commands.{placeOf}
 use Rattle.sfc6.proofs.place_of.Statement.{statement}
 use Rattle.sfc6.proofs.place_of.Tie as tie

@@ -1,10 +1,8 @@
 -- `sfc6::put_end` meets its contract. Assumes nothing.
 use borrow.Author.Needs.{needs}
 use native.Mathlib.Omega.{arith}
-use mathlib.Core.Path.{_≡_, sym}
-use mathlib.Core.List.{List, [], _∷_, _++_}
-use Prim.Native.Nat.{ℕ, _+_, _-_, _%_, _≤_, _<_}
-use lib.ListN.{length, length-set}
+use Prim.Native.Nat.{_-_, _%_, _<_}
+use lib.ListN.{length}
 use Rattle.refusal.proofs.Room.{write-then}
 use Rattle.shdlc.specs.Stuffing.{stuffByte}
 use Rattle.shdlc.proofs.Stuffing.{byte-short}

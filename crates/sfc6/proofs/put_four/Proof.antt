@@ -1,7 +1,6 @@
 -- `sfc6::put_four` meets its contract. Assumes nothing.
 use borrow.Author.Needs.{needs}
 use native.Mathlib.Omega.{arith}
-use mathlib.Core.Path.{_≡_, refl, sym, ap, _∙_}
 use Rattle.shdlc.proofs.Stuffing.{byte-short}
 use Rattle.sfc6.proofs.Laid.{put-wrote, four-bytes, four-wrote}
 use Rattle.sfc6.proofs.put_four.Statement.{statement}

@@ -1,9 +1,8 @@
 -- `sfc6::put_front` meets its contract: the parts one after the other. Assumes nothing.
 use borrow.Author.Needs.{needs}
 use native.Mathlib.Omega.{arith}
-use mathlib.Core.Path.{_≡_, sym}
-use mathlib.Core.List.{List, [], _∷_, _++_}
-use Prim.Native.Nat.{ℕ, _+_, _≤_, _<_}
+use mathlib.Core.List.{List}
+use Prim.Native.Nat.{ℕ, _+_, _≤_}
 use lib.ListN.{length, set, length-set}
 use Rattle.shdlc.specs.Stuffing.{stuffByte}
 use Rattle.shdlc.proofs.Stuffing.{byte-short}

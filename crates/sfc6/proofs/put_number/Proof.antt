@@ -1,7 +1,6 @@
 -- `sfc6::put_number` meets its contract: each size by itself. Assumes nothing.
 use borrow.Author.Needs.{needs}
 use native.Mathlib.Omega.{arith}
-use mathlib.Core.Path.{_≡_, sym}
 use Rattle.shdlc.proofs.Stuffing.{stuff-one}
 use Rattle.sfc6.proofs.Laid.{put-wrote, none-wrote, one-byte, no-byte}
 use Rattle.sfc6.proofs.put_number.Statement.{statement}

@@ -1,7 +1,5 @@
 -- `sfc6::put_sub` meets its contract. Assumes nothing.
 use borrow.Author.Needs.{needs}
-use native.Mathlib.Omega.{arith}
-use mathlib.Core.Path.{_≡_, sym}
 use Rattle.sfc6.proofs.Laid.{set-wrote, none-wrote, one-taken}
 use Rattle.sfc6.proofs.put_sub.Statement.{statement}
 use Rattle.sfc6.proofs.put_sub.Tie as tie

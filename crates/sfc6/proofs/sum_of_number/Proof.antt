@@ -1,7 +1,7 @@
 -- `sfc6::sum_of_number` meets its contract: each size by itself. Assumes nothing.
 use borrow.Author.Needs.{needs}
 use native.Mathlib.Omega.{arith}
-use mathlib.Core.Path.{_≡_, sym}
+use mathlib.Core.Path.{sym}
 use Rattle.sfc6.proofs.Laid.{four-sum, one-sum, no-sum}
 use Rattle.sfc6.proofs.sum_of_number.Statement.{statement}
 use Rattle.sfc6.proofs.sum_of_number.Tie as tie

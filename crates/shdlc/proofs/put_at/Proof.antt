@@ -1,11 +1,9 @@
 -- `shdlc::put_at` meets its contract. Assumes nothing.
 use borrow.Author.Needs.{needs}
 use borrow.Author.Tests.{lt-ltb, le-ltb}
-use mathlib.Core.Path.{_≡_}
-use Prim.Native.Nat.{ℕ, _+_}
+use Prim.Native.Nat.{_+_}
 use native.Mathlib.Omega.{arith}
 use lib.ListN.{length}
-use Rattle.shdlc.specs.Frame.{putAt}
 use Rattle.shdlc.proofs.Stuffing.{byte-short}
 use Rattle.shdlc.proofs.put_at.Statement.{statement}
 use Rattle.shdlc.proofs.put_at.Tie as tie
