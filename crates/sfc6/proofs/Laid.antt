@@ -1,6 +1,6 @@
 -- A request laid down part by part, each part from the place after the one before. Assumes nothing.
 use mathlib.Core.Path.{_≡_, refl, sym, ap, subst, _∙_}
-use mathlib.Core.Logic.{inl, inr}
+use mathlib.Core.Logic.{_⊎_, inl, inr}
 use mathlib.Core.List.{List, [], _∷_, _++_, append-assoc, append-nil}
 use Prim.Native.Nat.{ℕ, zero, suc, _+_, _-_, _/_, _%_, _≤_, _<_}
 use native.Mathlib.Nat.{div-one}
@@ -21,7 +21,18 @@ use Rattle.sfc6.specs.declared.Subcommand.the-variants as sub
 use Rattle.sfc6.specs.declared.Value.{Value}
 use Rattle.sfc6.specs.declared.Value.the-variants.{Nothing, Float, U32, Address, Baud}
 use Rattle.sfc6.specs.declared.Row.{Row}
-use Rattle.sfc6.specs.Requests.{subBytes, valueBytes, dataOf, bodyWith, Sized}
+use Rattle.sfc6.specs.Commands.{row, requestAt}
+use Rattle.sfc6.specs.Requests.{subBytes, valueBytes, dataOf, bodyWith}
+
+-- how many bytes a value of the table takes
+abbrev pub Sized : ℕ → Type 0
+Sized size = (size ≡ 0) ⊎ ((size ≡ 1) ⊎ (size ≡ 4))
+
+-- the body of the request at a place of the table, carrying a number
+abbrev pub bodyAt : ℕ → ℕ → ℕ → List ℕ
+bodyAt address place n =
+    bodyWith address (row (requestAt place 0) .command)
+    (subBytes (row (requestAt place 0) .sub) ++ bigEndian (length (valueBytes (row (requestAt place 0) .value))) n)
 
 -- bytes written at the start of a room: how many, and the room then
 abbrev pub Began : List ℕ → List ℕ → ℕ → List ℕ → Type 0

@@ -13,56 +13,33 @@ use Rattle.sfc6.specs.declared.Row.{Row}
 use Rattle.sfc6.specs.declared.Value.{Value}
 use Rattle.sfc6.specs.declared.Value.the-variants as value
 use Rattle.sfc6.specs.Commands.{row, placeOf, valueIn, valueOf}
-use Rattle.sfc6.specs.Requests.{subBytes, valueBytes, dataOf, bodyWith, bodyOf, bodyAt, Sized}
-use Rattle.sfc6.proofs.Laid.{sub-short, sub-taken, value-sized}
+use Rattle.sfc6.specs.Requests.{subBytes, valueBytes, dataOf, bodyWith, bodyOf}
+use Rattle.sfc6.proofs.Laid.{Sized, bodyAt, sub-short, sub-taken, value-sized}
 
-pub plain-command : (q : Request) → stuffByte (row q .command) ≡ row q .command ∷ []
-unfolding row stuffByte
-plain-command GetSetpoint = refl
-plain-command (SetSetpoint x) = refl
-plain-command MeasuredValue = refl
-plain-command GetGain = refl
-plain-command (SetGain x) = refl
-plain-command GetInitStep = refl
-plain-command (SetInitStep x) = refl
-plain-command RawFlow = refl
-plain-command RawConductivity = refl
-plain-command Temperature = refl
-plain-command NumberOfCalibrations = refl
-plain-command (Validity n) = refl
-plain-command FullScale = refl
-plain-command GetCalibration = refl
-plain-command (SetCalibration n) = refl
-plain-command (VolatileCalibration n) = refl
-plain-command GetAddress = refl
-plain-command (SetAddress a) = refl
-plain-command GetBaud = refl
-plain-command (SetBaud n) = refl
-plain-command ProductType = refl
-
-pub plain-sub : (q : Request) → stuffByte (sum (subBytes (row q .sub))) ≡ sum (subBytes (row q .sub)) ∷ []
+plain : (q : Request)
+    → (stuffByte (row q .command) ≡ row q .command ∷ []) × (stuffByte (sum (subBytes (row q .sub))) ≡ sum (subBytes (row q .sub)) ∷ [])
 unfolding row stuffByte sum
-plain-sub GetSetpoint = refl
-plain-sub (SetSetpoint x) = refl
-plain-sub MeasuredValue = refl
-plain-sub GetGain = refl
-plain-sub (SetGain x) = refl
-plain-sub GetInitStep = refl
-plain-sub (SetInitStep x) = refl
-plain-sub RawFlow = refl
-plain-sub RawConductivity = refl
-plain-sub Temperature = refl
-plain-sub NumberOfCalibrations = refl
-plain-sub (Validity n) = refl
-plain-sub FullScale = refl
-plain-sub GetCalibration = refl
-plain-sub (SetCalibration n) = refl
-plain-sub (VolatileCalibration n) = refl
-plain-sub GetAddress = refl
-plain-sub (SetAddress a) = refl
-plain-sub GetBaud = refl
-plain-sub (SetBaud n) = refl
-plain-sub ProductType = refl
+plain GetSetpoint = (refl, refl)
+plain (SetSetpoint x) = (refl, refl)
+plain MeasuredValue = (refl, refl)
+plain GetGain = (refl, refl)
+plain (SetGain x) = (refl, refl)
+plain GetInitStep = (refl, refl)
+plain (SetInitStep x) = (refl, refl)
+plain RawFlow = (refl, refl)
+plain RawConductivity = (refl, refl)
+plain Temperature = (refl, refl)
+plain NumberOfCalibrations = (refl, refl)
+plain (Validity n) = (refl, refl)
+plain FullScale = (refl, refl)
+plain GetCalibration = (refl, refl)
+plain (SetCalibration n) = (refl, refl)
+plain (VolatileCalibration n) = (refl, refl)
+plain GetAddress = (refl, refl)
+plain (SetAddress a) = (refl, refl)
+plain GetBaud = (refl, refl)
+plain (SetBaud n) = (refl, refl)
+plain ProductType = (refl, refl)
 
 -- the parts of a row that were looked up: what the writer asks of them, and the body that they make
 module _ (q : Request) {command s count size : ℕ} (e : command ≡ row q .command) (f : s ≡ sum (subBytes (row q .sub)))
@@ -70,7 +47,7 @@ module _ (q : Request) {command s count size : ℕ} (e : command ≡ row q .comm
   pub parts-allowed : (count ≤ 1) × Sized size × (sum (take count (s ∷ [])) ≡ s) × (stuffByte command ≡ command ∷ []) × (stuffByte s ≡ s ∷ [])
   parts-allowed =
       rw (e, f, g, h)
-      (sub-short (row q .sub), value-sized (row q .value), ap sum (sub-taken (row q .sub)), plain-command q, plain-sub q)
+      (sub-short (row q .sub), value-sized (row q .value), ap sum (sub-taken (row q .sub)), plain q .0, plain q .1)
 
   pub parts-body : (address n : ℕ) → bodyWith address command (take count (s ∷ []) ++ bigEndian size n)
       ≡ bodyWith address (row q .command) (subBytes (row q .sub) ++ bigEndian (length (valueBytes (row q .value))) n)

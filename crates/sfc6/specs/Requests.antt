@@ -1,7 +1,5 @@
 -- A request: its own refusals, its bytes on the wire, and its writer. 01, Commands of the SFC6 family and Refusal numbers.
 use Prim.Native.Nat.{ℕ}
-use mathlib.Core.Path.{_≡_}
-use mathlib.Core.Logic.{_⊎_}
 use mathlib.Core.Bool.{Bool}
 use mathlib.Core.List.{List, [], _∷_, _++_}
 use lib.Dec.{ltb}
@@ -17,7 +15,7 @@ use Rattle.sfc6.specs.declared.Subcommand.the-variants as sub
 use Rattle.sfc6.specs.declared.Row.{Row}
 use Rattle.sfc6.specs.declared.Value.{Value}
 use Rattle.sfc6.specs.declared.Value.the-variants.{Nothing, Float, U32, Address, Baud}
-use Rattle.sfc6.specs.Commands.{row, requestAt, outOfRange, badFloat, addressToAll}
+use Rattle.sfc6.specs.Commands.{row, outOfRange, badFloat, addressToAll}
 
 -- "Order": a request's own refusals, 12, 13, 10, with which both writing a request and both reply jobs start
 abbrev pub requestChecks : ℕ → Request → List (Bool × Numbered)
@@ -53,16 +51,6 @@ bodyWith address command bytes = address ∷ command ∷ length bytes ∷ bytes
 
 unfoldable pub bodyOf : ℕ → Row → List ℕ
 bodyOf address r = bodyWith address (r .command) (dataOf r)
-
--- the body of the request at a place of the table, carrying a number
-abbrev pub bodyAt : ℕ → ℕ → ℕ → List ℕ
-bodyAt address place n =
-    bodyWith address (row (requestAt place 0) .command)
-    (subBytes (row (requestAt place 0) .sub) ++ bigEndian (length (valueBytes (row (requestAt place 0) .value))) n)
-
--- how many bytes a value of the table takes
-abbrev pub Sized : ℕ → Type 0
-Sized size = (size ≡ 0) ⊎ ((size ≡ 1) ⊎ (size ≡ 4))
 
 -- "Order": "writing one 12, 13, 10, 5, 1". "Number 5 is tested in both writers, for data over 255 bytes."
 unfoldable pub frameToWrite : ℕ → Request → Answered (List ℕ)

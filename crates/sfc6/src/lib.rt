@@ -6,6 +6,7 @@ use shdlc::Checked;
 use shdlc::Kind;
 use shdlc::Written;
 ghost use mathlib.Core.Path.{_≡_};
+ghost use mathlib.Core.Logic.{_⊎_};
 ghost use mathlib.Core.List.{[], _∷_, _++_};
 ghost use Prim.Native.Nat.{_+_, _-_, _/_, _%_, _≤_, _<_, min};
 ghost use mathlib.Core.Bool.{cond};
@@ -14,7 +15,7 @@ ghost use lib.ListN.{length, take, drop};
 ghost use lib.Ieee.{binary32, toBits, ofBits};
 ghost use Rattle.sfc6.specs.declared.Request.{Request as Asked};
 ghost use Rattle.sfc6.specs.Commands.{withSub, withoutSub, row, table, requestAt, placeOf, valueOf, bauds, member, finite, outOfRange, badFloat, addressToAll};
-ghost use Rattle.sfc6.specs.Requests.{checkRequest, subBytes, valueBytes, dataOf, bodyWith, bodyOf, bodyAt, Sized, frameToWrite, writeRequest};
+ghost use Rattle.sfc6.specs.Requests.{checkRequest, subBytes, valueBytes, dataOf, bodyWith, bodyOf, frameToWrite, writeRequest};
 ghost use Rattle.sfc6.specs.Rounds.{appendRequest, pollRound};
 ghost use Rattle.sfc6.specs.Reading.{startsWith, named, fitting, first, carried, typed, readRequest};
 ghost use Rattle.refusal.specs.Room.{overlay};
@@ -393,7 +394,7 @@ fn put_four(out: &mut [u8], place: usize, n: u32) -> usize
 
 // Writes a number of 0, 1 or 4 bytes, stuffed, at a place, and answers the place after it.
 fn put_number(out: &mut [u8], place: usize, size: usize, n: u32) -> usize
-    requires { ⌜ (place + 8 ≤ length (now out)) × Sized size ⌝ }
+    requires { ⌜ (place + 8 ≤ length (now out)) × ((size ≡ 0) ⊎ ((size ≡ 1) ⊎ (size ≡ 4))) ⌝ }
     ensures { λ r. ⌜ (r ≡ place + length (stuff (bigEndian size n))) × (now (out .exit) ≡ overlay (now (out .entry)) place (stuff (bigEndian size n))) ⌝ }
 {
     if size == 4 {
@@ -407,7 +408,7 @@ fn put_number(out: &mut [u8], place: usize, size: usize, n: u32) -> usize
 
 // The sum of its bytes.
 fn sum_of_number(size: usize, n: u32) -> u32
-    requires { ⌜ Sized size ⌝ }
+    requires { ⌜ ((size ≡ 0) ⊎ ((size ≡ 1) ⊎ (size ≡ 4))) ⌝ }
     ensures { λ r. ⌜ (r ≡ sum (bigEndian size n)) × (r < 1024) ⌝ }
 {
     if size == 4 {
@@ -464,7 +465,7 @@ fn lay_command(
     n: u32,
     out: &mut [u8],
 ) -> usize
-    requires { ⌜ (17 ≤ length (now out)) × (count ≤ 1) × Sized size × (sum (take count (sub ∷ [])) ≡ sub) × (stuffByte command ≡ command ∷ []) × (stuffByte sub ≡ sub ∷ []) ⌝ }
+    requires { ⌜ (17 ≤ length (now out)) × (count ≤ 1) × ((size ≡ 0) ⊎ ((size ≡ 1) ⊎ (size ≡ 4))) × (sum (take count (sub ∷ [])) ≡ sub) × (stuffByte command ≡ command ∷ []) × (stuffByte sub ≡ sub ∷ []) ⌝ }
     ensures { λ r. ⌜ (r ≤ 17) × (r ≡ length (frameOf (bodyWith address command (take count (sub ∷ []) ++ bigEndian size n)))) × (now (out .exit) ≡ overlay (now (out .entry)) 0 (frameOf (bodyWith address command (take count (sub ∷ []) ++ bigEndian size n)))) ⌝ }
 {
     let data = count + size;
@@ -554,7 +555,7 @@ pub fn value_of(request: Request) -> u32
 // Writes the frame of the request at a place of the table, carrying a number, into room for the longest, and answers its length.
 fn lay_at(address: u8, place: usize, n: u32, out: &mut [u8]) -> usize
     requires { ⌜ (place ≤ 20) × (17 ≤ length (now out)) ⌝ }
-    ensures { λ r. ⌜ (r ≤ 17) × (r ≡ length (frameOf (bodyAt address place n))) × (now (out .exit) ≡ overlay (now (out .entry)) 0 (frameOf (bodyAt address place n))) ⌝ }
+    ensures { λ r. ⌜ (r ≤ 17) × (r ≡ length (frameOf (bodyWith address (row (requestAt place 0) .command) (subBytes (row (requestAt place 0) .sub) ++ bigEndian (length (valueBytes (row (requestAt place 0) .value))) n)))) × (now (out .exit) ≡ overlay (now (out .entry)) 0 (frameOf (bodyWith address (row (requestAt place 0) .command) (subBytes (row (requestAt place 0) .sub) ++ bigEndian (length (valueBytes (row (requestAt place 0) .value))) n)))) ⌝ }
 {
     // Never: it tells the compiler that no place below needs a test.
     if out.len() < 17 {
@@ -587,7 +588,7 @@ fn copy(out: &mut [u8], bytes: &[u8])
 // The same into any room, 0 where that is too short. A room that might be is given the frame once it is known to fit.
 fn lay_numbered(address: u8, place: usize, n: u32, out: &mut [u8]) -> usize
     requires { ⌜ place ≤ 20 ⌝ }
-    ensures { λ r. ⌜ (writtenOf r, now (out .exit)) ≡ writeFrame (bodyAt address place n) (now (out .entry)) ⌝ }
+    ensures { λ r. ⌜ (writtenOf r, now (out .exit)) ≡ writeFrame (bodyWith address (row (requestAt place 0) .command) (subBytes (row (requestAt place 0) .sub) ++ bigEndian (length (valueBytes (row (requestAt place 0) .value))) n)) (now (out .entry)) ⌝ }
 {
     if 16 < out.len() {
         return lay_at(address, place, n, out);
