@@ -1,6 +1,5 @@
 -- The twelve examples of document 01 hold: each row of the table, by computing it. Assumes nothing.
 use mathlib.Core.Path.{refl}
-use native.Mathlib.Omega.{arith}
 use lib.Ieee.{ofInt, ofBits, toBits}
 use Rattle.refusal.specs.Room.{overlay, emit}
 use Rattle.shdlc.specs.Checksum.{sum, checksumOf}
@@ -18,7 +17,7 @@ use Rattle.replies.specs.Writer.{bodyOf, frameFor, writeReply}
 use Rattle.replies.specs.Writer.{frameToWrite as replyToWrite}
 use Rattle.i2c.specs.Crc.{bitStep, bitSteps, byteStep, crcOf}
 use Rattle.i2c.specs.Word.{wordsOf, checkWord, firstWrong, noWords, readChecked, readWords}
-use Rattle.reading.specs.Reading.{goodScale, InThousandths}
+use Rattle.reading.specs.Reading.{goodScale, rounded, inThousandths}
 use Rattle.examples.specs.Table.{Every, rows}
 
 infixr 20 _and_
@@ -33,7 +32,7 @@ unfolding overlay emit
     checkRequest startsWith named fitting first carried typed readRequest
     dataIn foreign answerTo readReply bodyOf frameFor replyToWrite writeReply
     bitStep bitSteps byteStep crcOf wordsOf checkWord firstWrong noWords readChecked readWords
-    goodScale InThousandths ofInt ofBits toBits
+    goodScale rounded inThousandths ofInt ofBits toBits
 examples =
     refl
     and (refl, refl, refl)
@@ -47,7 +46,7 @@ examples =
     and refl
     and refl
     and refl
-    and (refl, record { near = omega arith; away = λ e. omega arith })
-    and (refl, record { near = omega arith; away = λ e. omega arith })
-    and (refl, record { near = omega arith; away = λ e. omega arith })
+    and refl
+    and refl
+    and refl
     and tt

@@ -28,7 +28,7 @@ use Rattle.i2c.specs.declared.word.Family.{Family}
 use Rattle.i2c.specs.declared.word.Family.the-variants.{Liquid}
 use Rattle.i2c.specs.Crc.{crcOf}
 use Rattle.i2c.specs.Word.{startOf, readWords}
-use Rattle.reading.specs.Reading.{InThousandths}
+use Rattle.reading.specs.Reading.{inThousandths}
 
 -- A row: what an example gives, and what it says of it.
 pub data Row : Type 0 where
@@ -82,7 +82,7 @@ Holds (error wire asked address code) =
     × (writeReply address asked (replies.DeviceError code) [] false (roomFor wire) ≡ (served (length wire), wire))
 Holds (crc bytes start c) = crcOf start bytes ≡ c
 Holds (word bytes family n) = readWords (startOf family) bytes (0 ∷ []) ≡ (served 1, n ∷ [])
-Holds (scaled raw offset scale thousandths) = InThousandths raw offset scale (served thousandths)
+Holds (scaled raw offset scale thousandths) = inThousandths raw offset scale ≡ served thousandths
 
 abbrev pub Every : List Row → Type 0
 Every [] = Unit {0}

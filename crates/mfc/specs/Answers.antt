@@ -3,11 +3,9 @@
 use Prim.Native.Nat.{ℕ}
 use lib.IntN.{ℤ, pos}
 use lib.Ieee.{Float, fin}
-use mathlib.Core.Path.{_≡_}
 use mathlib.Core.Bool.{false}
 use mathlib.Core.List.{List}
 use Rattle.refusal.specs.Refusals.{Numbered, number, _carrying_, numberIn, Answered, served, refused}
-use Rattle.reading.specs.Reading.{InThousandths}
 use Rattle.mfc.specs.declared.answers.MfcWritten.{MfcWritten}
 use Rattle.mfc.specs.declared.answers.MfcWords.{MfcWords}
 use Rattle.mfc.specs.declared.answers.MfcRegister.{MfcRegister}
@@ -38,10 +36,6 @@ register (refused n) = record { refusal = numberIn n; value = 0 }
 abbrev pub thousandths : Answered ℤ → MfcThousandths
 thousandths (served z) = record { refusal = 0; value = z }
 thousandths (refused n) = record { refusal = numberIn n; value = pos 0 }
-
--- 01, Words on I2C: the struct of the answer that 01 gives
-abbrev pub InThousandthsOf : ℤ → ℤ → ℤ → MfcThousandths → Type 0
-InThousandthsOf raw offset scale r = (answer : Answered ℤ) × InThousandths raw offset scale answer × (r ≡ thousandths answer)
 
 -- a reading in single precision
 abbrev pub quantity : Answered Float → MfcQuantity

@@ -4,13 +4,13 @@ use crate::answers::MfcThousandths;
 use crate::answers::of_quantity;
 use crate::answers::of_thousandths;
 ghost use mathlib.Core.Path.{_≡_};
-ghost use Rattle.reading.specs.Reading.{quantity};
+ghost use Rattle.reading.specs.Reading.{inThousandths, quantity};
 ghost use Rattle.mfc.specs.Answers as answers;
 
 // (raw - offset) x 1000 / scale, rounded to nearest, halves away from zero. Refusal 18 for a scale outside 1 to 32,767.
 #[no_mangle]
 pub extern "C" fn mfc_scaled(raw: i16, offset: i16, scale: i32) -> MfcThousandths
-    ensures { λ r. ⌜ answers.InThousandthsOf raw offset scale r ⌝ }
+    ensures { λ r. ⌜ r ≡ answers.thousandths (inThousandths raw offset scale) ⌝ }
 {
     of_thousandths(reading::scaled(raw, offset, scale))
 }

@@ -2,5 +2,4 @@ pub mod SignedLaws
 pub mod Rounding
 pub mod Scale
 pub mod Exact
-pub mod Only
 pub mod OneToOne

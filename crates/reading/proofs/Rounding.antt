@@ -9,11 +9,7 @@ use lib.Dec.{ltb, leb·suc-zero}
 use lib.IntN.{ℤ, pos, negsuc, negℤ, natAbs, subℕ, _+ℤ_, _-ℤ_, _*ℤ_, negℤ-+ℤ, negℤ-negℤ}
 use lib.Signed.{ltZ}
 use borrow.Author.Tests.{ltb-true, ltb-false}
-use Rattle.reading.specs.Reading.{Rounded}
-
--- m / d to the nearest, halves up
-abbrev pub nearestTo : ℕ → ℕ → ℕ
-nearestTo m d = (m * 2 + d) / (d * 2)
+use Rattle.reading.specs.Reading.{nearest, rounded, Rounded, OneRounding}
 
 -- the distance of two sizes
 size-sub : (a b : ℕ) → natAbs (pos a -ℤ pos b) ≡ (a - b) + (b - a)
@@ -25,9 +21,9 @@ size-sub a (suc b) = pick (ltb a (suc b)) refl
     pick false e = rw e (omega (arith, ltb-false a (suc b) e))
 
 -- of a size
-size-rounded : (m d : ℕ) → 1 ≤ d → Rounded (pos m) d (pos (nearestTo m d))
+size-rounded : (m d : ℕ) → 1 ≤ d → Rounded (pos m) d (pos (nearest m d))
 size-rounded m d h =
-    let q = nearestTo m d in
+    let q = nearest m d in
     let e : q * (d * 2) + (m * 2 + d) % (d * 2) ≡ m * 2 + d = div-add-mod' (m * 2 + d) (d * 2) in
     let l : (m * 2 + d) % (d * 2) < d * 2 = mod-lt (m * 2 + d) (omega arith) in
     let a : q * d * 2 ≡ q * (d * 2) = mul-assoc q d 2 in
@@ -54,15 +50,21 @@ rounded-neg n q d r =
     let a : natAbs (negℤ q *ℤ pos d) ≡ natAbs (q *ℤ pos d) = ap natAbs (neg-mul q d) ∙ size-neg (q *ℤ pos d) in
     record { near = rw f (r .near); away = λ x. rw (a, size-neg n) (r .away (ap (λ (y : ℕ). y * 2) (sym f) ∙ x)) }
 
--- the code's way: by sign and size
-pub sign-rounded : (z : ℤ) (k d : ℕ) → 1 ≤ d
-    → Rounded (z *ℤ pos k) d (cond (ltZ z (pos 0)) (negℤ (pos (nearestTo (natAbs z * k) d))) (pos (nearestTo (natAbs z * k) d)))
-sign-rounded (pos m) k d h = rw (leb·suc-zero m) (size-rounded (m * k) d h)
-sign-rounded (negsuc m) k d h = rounded-neg (pos (suc m * k)) (pos (nearestTo (suc m * k) d)) d (size-rounded (suc m * k) d h)
+-- the code's way: by sign and size, of a product
+neg-rounded : (n d : ℕ) → 1 ≤ n → rounded (negℤ (pos n)) d ≡ negℤ (pos (nearest n d))
+unfolding rounded
+neg-rounded zero d h = absurd (omega arith)
+neg-rounded (suc n) d h = refl
+
+pub sign-rounded : (z : ℤ) (k d : ℕ) → 1 ≤ k
+    → cond (ltZ z (pos 0)) (negℤ (pos (nearest (natAbs z * k) d))) (pos (nearest (natAbs z * k) d)) ≡ rounded (z *ℤ pos k) d
+unfolding rounded
+sign-rounded (pos m) k d h = rw (leb·suc-zero m)
+sign-rounded (negsuc m) k d h = sym (neg-rounded (suc m * k) d (omega (arith, suc-mul m k)))
 
 -- no other number is so near: of a size
 module _ (m d : ℕ) (h : 1 ≤ d) where
-  size-only : (q : ℤ) → Rounded (pos m) d q → q ≡ pos (nearestTo m d)
+  size-only : (q : ℤ) → Rounded (pos m) d q → q ≡ pos (nearest m d)
   size-only (negsuc k) r =
       let s : natAbs (pos m -ℤ negsuc k *ℤ pos d) ≡ m + suc k * d = ap (λ (z : ℤ). natAbs (pos m +ℤ z)) (negℤ-negℤ (pos (suc k * d))) in
       absurd (omega (arith, r .near, suc-mul k d))
@@ -79,9 +81,14 @@ module _ (m d : ℕ) (h : 1 ≤ d) where
           let half : natAbs (pos m -ℤ pos (q * d)) * 2 ≡ d = omega (arith, ltb-false ((m - q * d) * 2) d e, r .near, size-sub m (q * d)) in
           absurd (omega (arith, r .away half, ltb-false ((m - q * d) * 2) d e))
 
-pub rounded-only : (n : ℤ) (d : ℕ) (p q : ℤ) → 1 ≤ d → Rounded n d p → Rounded n d q → p ≡ q
-rounded-only (pos m) d p q h r s = size-only m d h p r ∙ sym (size-only m d h q s)
-rounded-only (negsuc m) d p q h r s =
-    let e : negℤ p ≡ negℤ q =
-    size-only (suc m) d h (negℤ p) (rounded-neg (negsuc m) p d r) ∙ sym (size-only (suc m) d h (negℤ q) (rounded-neg (negsuc m) q d s)) in
-    sym (negℤ-negℤ p) ∙ ap negℤ e ∙ negℤ-negℤ q
+pub one-rounding : OneRounding
+unfolding rounded
+one-rounding = record { has = has; only = only }
+  where
+    has : (n : ℤ) (d : ℕ) → 1 ≤ d → Rounded n d (rounded n d)
+    has (pos m) d h = size-rounded m d h
+    has (negsuc m) d h = rounded-neg (pos (suc m)) (pos (nearest (suc m) d)) d (size-rounded (suc m) d h)
+
+    only : (n : ℤ) (d : ℕ) (q : ℤ) → 1 ≤ d → Rounded n d q → q ≡ rounded n d
+    only (pos m) d q h r = size-only m d h q r
+    only (negsuc m) d q h r = sym (negℤ-negℤ q) ∙ ap negℤ (size-only (suc m) d h (negℤ q) (rounded-neg (negsuc m) q d r))

@@ -1,8 +1,8 @@
 -- Scaled readings: raw and offset signed 16-bit, the answer (raw - offset) / scale.
-use Prim.Native.Nat.{ℕ, _*_, _≤_}
+use Prim.Native.Nat.{ℕ, suc, _+_, _*_, _/_, _≤_}
 use mathlib.Core.Path.{_≡_}
 use mathlib.Core.Bool.{Bool, true, false, cond, _&&_}
-use lib.IntN.{ℤ, pos, natAbs, _-ℤ_, _*ℤ_}
+use lib.IntN.{ℤ, pos, negsuc, negℤ, natAbs, _-ℤ_, _*ℤ_}
 use lib.Signed.{leZ}
 use lib.Ieee.{Float, binary32, div, ofInt}
 use Rattle.refusal.specs.Refusals.{number, paper, Answered, served, refused}
@@ -15,16 +15,29 @@ use Rattle.reading.specs.declared.Quantity.the-variants as quantities
 unfoldable pub goodScale : ℤ → Bool
 goodScale scale = leZ (pos 1) scale && leZ scale (pos 32767)
 
--- 01, Words on I2C: q is n / d rounded to nearest, halves away from zero. The distance from q to the exact quotient is at most a half;
--- where it is exactly a half, q is no nearer to zero than the quotient. (Both sides are multiplied by d.)
+-- the quotient of two sizes to the nearest whole number, a half up: half of d is added first, and all is doubled, so that an odd d has a half
+abbrev pub nearest : ℕ → ℕ → ℕ
+nearest m d = (m * 2 + d) / (d * 2)
+
+-- 01, Words on I2C: n / d rounded to nearest, halves away from zero: both signs alike
+unfoldable pub rounded : ℤ → ℕ → ℤ
+rounded (pos m) d = pos (nearest m d)
+rounded (negsuc m) d = negℤ (pos (nearest (suc m) d))
+
+-- what that means: the distance from q to the exact quotient is at most a half; where it is exactly a half, q is no nearer to zero than
+-- the quotient. (Both sides are multiplied by d.)
 pub record Rounded (n : ℤ) (d : ℕ) (q : ℤ) : Type 0 where
   pub near : natAbs (n -ℤ q *ℤ pos d) * 2 ≤ d
   pub away : natAbs (n -ℤ q *ℤ pos d) * 2 ≡ d → natAbs n ≤ natAbs (q *ℤ pos d)
 
+-- and `rounded` is the one number that has that meaning: proved in proofs/Rounding.antt
+pub record OneRounding : Type 0 where
+  pub has : (n : ℤ) (d : ℕ) → 1 ≤ d → Rounded n d (rounded n d)
+  pub only : (n : ℤ) (d : ℕ) (q : ℤ) → 1 ≤ d → Rounded n d q → q ≡ rounded n d
+
 -- 01, Words on I2C: the answer in thousandths of the unit is (raw - offset) x 1000 / scale, so rounded; else 18
-unfoldable pub InThousandths : ℤ → ℤ → ℤ → Answered ℤ → Type 0
-InThousandths raw offset scale (served q) = (goodScale scale ≡ true) × Rounded ((raw -ℤ offset) *ℤ pos 1000) (natAbs scale) q
-InThousandths raw offset scale (refused r) = (goodScale scale ≡ false) × (r ≡ number 18)
+unfoldable pub inThousandths : ℤ → ℤ → ℤ → Answered ℤ
+inThousandths raw offset scale = cond (goodScale scale) (served (rounded ((raw -ℤ offset) *ℤ pos 1000) (natAbs scale))) (refused (number 18))
 
 -- 01, Words on I2C: a float form is (raw - offset) / scale in single precision, one division, both operands exact; else 18
 unfoldable pub quantity : ℤ → ℤ → ℤ → Answered Float

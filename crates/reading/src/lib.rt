@@ -4,7 +4,7 @@ ghost use mathlib.Core.Path.{_≡_};
 ghost use mathlib.Core.Bool.{cond};
 ghost use Prim.Native.Nat.{_+_, _*_, _/_, _≤_, _<_, _^_};
 ghost use lib.IntN.{pos, negℤ, natAbs, _-ℤ_, _*ℤ_};
-ghost use Rattle.reading.specs.Reading.{Rounded, paperThousandths, InThousandths, paperQuantity, quantity};
+ghost use Rattle.reading.specs.Reading.{rounded, paperThousandths, inThousandths, paperQuantity, quantity};
 
 // A reading in thousandths of the unit, or why there is none.
 pub enum Thousandths {
@@ -51,14 +51,14 @@ fn nearest(m: u32, d: u32) -> u32
 // d * 1000 / scale to the nearest, halves away from zero: by sign and size, so that both signs round alike.
 fn over_scale(d: i32, scale: u32) -> i32
     requires { ⌜ (natAbs d < 2 ^ 16) × (1 ≤ scale) × (scale < 2 ^ 15) ⌝ }
-    ensures { λ r. ⌜ Rounded (d *ℤ pos 1000) scale r ⌝ }
+    ensures { λ r. ⌜ r ≡ rounded (d *ℤ pos 1000) scale ⌝ }
 {
     with_sign(d < 0, nearest(size(d) * 1000, scale))
 }
 
 // The reading in thousandths of the unit.
 pub fn scaled(raw: i16, offset: i16, scale: i32) -> Thousandths
-    ensures { λ r. ⌜ InThousandths raw offset scale (paperThousandths r) ⌝ }
+    ensures { λ r. ⌜ paperThousandths r ≡ inThousandths raw offset scale ⌝ }
 {
     if scale < 1 {
         return Thousandths::Refused(Refusal::BadScale);

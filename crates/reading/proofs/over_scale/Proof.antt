@@ -1,12 +1,11 @@
 -- `reading::over_scale` meets its contract: rounding goes by sign and size. Assumes nothing.
-use mathlib.Core.Path.{_≡_, _∙_, sym, subst}
+use mathlib.Core.Path.{_≡_, _∙_}
 use Prim.Native.Nat.{_*_, _+_}
 use native.Mathlib.Nat.{div-le-self}
 use native.Mathlib.Omega.{arith}
-use lib.IntN.{ℤ, natAbs, pos, _*ℤ_}
+use lib.IntN.{natAbs}
 use mir.Syntax.{w32}
 use mir.ValLaws.{toZ-ofZ}
-use Rattle.reading.specs.Reading.{Rounded}
 use Rattle.reading.proofs.Rounding.{sign-rounded}
 use Rattle.reading.proofs.over_scale.Statement.{statement}
 use Rattle.reading.proofs.over_scale.Tie as tie
@@ -33,10 +32,9 @@ returns : tie.Need-returns
 returns c =
     let a = c .before .before .before in
     let d = a .args .d in
-    let e =
     toZ-ofZ w32 (c .with-sign .result) (record { sfits = c .with-sign .ok })
-    ∙ rw (toZ-ofZ w32 d (a .fits .d), c .before .nearest .ensures, sized (c .before .before)) at (c .with-sign .ensures) in
-    subst (λ (q : ℤ). Rounded (d *ℤ pos 1000) (a .args .scale) q) (sym e) (sign-rounded d 1000 (a .args .scale) (omega (arith, a .pre)))
+    ∙ rw (toZ-ofZ w32 d (a .fits .d), c .before .nearest .ensures, sized (c .before .before)) at (c .with-sign .ensures)
+    ∙ sign-rounded d 1000 (a .args .scale) (omega arith)
 
 pub over-scale-spec : {M : Type 1} → statement M
 over-scale-spec =

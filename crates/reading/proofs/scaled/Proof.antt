@@ -6,7 +6,7 @@ use lib.Signed.{ltZ}
 use native.Mathlib.Omega.{arith}
 use mir.Syntax.{w16, w32}
 use mir.ValLaws.{toZ-ofZ}
-use Rattle.reading.specs.Reading.{InThousandths}
+use Rattle.reading.specs.Reading.{inThousandths}
 use Rattle.reading.proofs.Scale.{scale-low, scale-nonneg, scale-some, scale-high, scale-good, scale-size}
 use borrow.Author.Needs.{needs}
 use Rattle.reading.proofs.scaled.Statement.{statement}
@@ -20,16 +20,16 @@ high : (c : tie.Else2) → ltZ (pos 32767) (c .before .before .args .scale) ≡ 
 high c = rw (toZ-ofZ w32 (c .before .before .args .scale) (c .before .before .fits .scale)) at (c .if2 .left)
 
 returns : tie.Need-returns
-unfolding InThousandths
+unfolding inThousandths
 returns c =
     let a = c .before in
-    (scale-low (a .args .scale) (rw (toZ-ofZ w32 (a .args .scale) (a .fits .scale)) at (c .if1 .taken)), refl)
+    rw (scale-low (a .args .scale) (rw (toZ-ofZ w32 (a .args .scale) (a .fits .scale)) at (c .if1 .taken)))
 
 returns-2 : tie.Need-returns-2
-unfolding InThousandths
+unfolding inThousandths
 returns-2 c =
     let a = c .before .before in
-    (scale-high (a .args .scale) (low (c .before)) (rw (toZ-ofZ w32 (a .args .scale) (a .fits .scale)) at (c .if2 .taken)), refl)
+    rw (scale-high (a .args .scale) (low (c .before)) (rw (toZ-ofZ w32 (a .args .scale) (a .fits .scale)) at (c .if2 .taken)))
 
 cast-over-scale : tie.Need-cast-over-scale
 cast-over-scale c =
@@ -48,14 +48,14 @@ over-scale-requires c κs =
     (c .difference .ensures .1, scale-some z (low (e .before)), scale-size z (low (e .before)) (high e))
 
 returns-3 : tie.Need-returns-3
-unfolding InThousandths
+unfolding inThousandths
 returns-3 c =
     let d = c .before .difference in
     let e = c .before .before in
     let a = e .before .before in
     let z = a .args .scale in
-    rw (toZ-ofZ w32 (c .over-scale .result) (record { sfits = c .over-scale .ok }))
-    (scale-good z (low (e .before)) (high e), rw (toZ-ofZ w32 (d .result) (record { sfits = d .ok }), d .ensures .0, toZ-ofZ w16 (a .args .raw) (a .fits .raw), toZ-ofZ w16 (a .args .offset) (a .fits .offset), toZ-ofZ w32 z (a .fits .scale)) at (c .over-scale .ensures))
+    let q = rw (toZ-ofZ w32 (d .result) (record { sfits = d .ok }), d .ensures .0, toZ-ofZ w16 (a .args .raw) (a .fits .raw), toZ-ofZ w16 (a .args .offset) (a .fits .offset), toZ-ofZ w32 z (a .fits .scale)) at (c .over-scale .ensures) in
+    rw (toZ-ofZ w32 (c .over-scale .result) (record { sfits = c .over-scale .ok }), q, scale-good z (low (e .before)) (high e))
 
 pub scaled-spec : {M : Type 1} → statement M
 scaled-spec =

@@ -1,7 +1,9 @@
 -- `mfc::readings::mfc_scaled` meets its contract. Assumes nothing.
 use borrow.Author.Needs.{needs}
+use mathlib.Core.Path.{ap, _∙_}
 use mir.Syntax.{w16, w32}
 use mir.ValLaws.{toZ-ofZ}
+use Rattle.mfc.specs.Answers.{thousandths}
 use Rattle.mfc.proofs.readings.mfc_scaled.Statement.{statement}
 use Rattle.mfc.proofs.readings.mfc_scaled.Tie as tie
 
@@ -11,4 +13,4 @@ mfc-scaled-spec =
     (tie.spec
     (λ c κs. search needs)
     (λ c κs. search needs)
-    (λ c. let a = c .before .before in (_, rw (toZ-ofZ w16 (a .args .raw) (a .fits .raw), toZ-ofZ w16 (a .args .offset) (a .fits .offset), toZ-ofZ w32 (a .args .scale) (a .fits .scale)) at (c .before .scaled .ensures), c .of-thousandths .ensures)))
+    (λ c. let a = c .before .before in c .of-thousandths .ensures ∙ ap thousandths (rw (toZ-ofZ w16 (a .args .raw) (a .fits .raw), toZ-ofZ w16 (a .args .offset) (a .fits .offset), toZ-ofZ w32 (a .args .scale) (a .fits .scale)) at (c .before .scaled .ensures))))
