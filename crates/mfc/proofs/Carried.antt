@@ -20,7 +20,7 @@ use Rattle.receiver.specs.Record.{Record, numberOfMode, lengthInRange, inRange}
 use Rattle.receiver.specs.Calls.{feedOf}
 use Rattle.mfc.specs.Receivers.{numberOfKind, kindAt, modeAt, bytesOf, storeIn, recordIn, fedBytes, feedAs, feedRecord, silenceAs, silenceRecord}
 
-kind-back : (kind : Kind) → kindAt (numberOfKind kind) ≡ some kind
+pub kind-back : (kind : Kind) → kindAt (numberOfKind kind) ≡ some kind
 kind-back Request = refl
 kind-back Reply = refl
 
@@ -38,7 +38,7 @@ length-below Escaped n h = ltb-true n 262 h
 length-below BadEscape n h = ltb-true n 262 h
 length-below BareControl n h = ltb-true n 262 h
 
-in-range : (r : Record) → inRange r ≡ true → (length (r .store) ≡ 260) × (r .len < 262)
+pub in-range : (r : Record) → inRange r ≡ true → (length (r .store) ≡ 260) × (r .len < 262)
 in-range r h = go (eqb (length (r .store)) 260) refl h
   where
     go : (t : Bool) → eqb (length (r .store)) 260 ≡ t → (t && lengthInRange (r .mode) (r .len)) ≡ true

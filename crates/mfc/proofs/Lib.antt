@@ -7,3 +7,4 @@ pub mod Heads
 pub mod Lent
 pub mod Replying
 pub mod Carried
+pub mod EverySeries

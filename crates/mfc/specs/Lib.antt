@@ -4,3 +4,4 @@ pub mod Codes
 pub mod Requests
 pub mod Receivers
 pub mod Answering
+pub mod Series

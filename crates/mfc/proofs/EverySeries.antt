@@ -1,0 +1,117 @@
+-- Demand 3 over the record's bytes: every series of calls from C gives what its stream says. Assumes nothing.
+use mathlib.Core.Path.{_≡_, refl, sym, ap, _∙_}
+use mathlib.Core.Bool.{Bool, true, false, cond}
+use mathlib.Core.List.{List, [], _∷_, _++_, map}
+use Prim.Native.Nat.{ℕ, _+_, _≤_}
+use native.Mathlib.Omega.{arith}
+use borrow.Author.Tests.{le-ltb}
+use lib.ListN.{length, drop}
+use lib.Seq.{drop-append-seam}
+use Rattle.refusal.specs.Refusals.{number, refused}
+use Rattle.refusal.specs.Room.{overlay}
+use Rattle.shdlc.specs.declared.Kind.{Kind}
+use Rattle.receiver.specs.Record.{Record, inRange, pending, fresh}
+use Rattle.receiver.specs.Calls.{nothing, gave, Result, Outcome, feedOf, silenceOf}
+use Rattle.receiver.specs.Series.{Call, feeding, silence, outcome, results, recordAfter, streamOf, Demand3}
+use Rattle.receiver.proofs.Cases.{quiet, silence-said}
+use Rattle.receiver.proofs.EverySeries.{demand3}
+use Rattle.mfc.specs.declared.answers.MfcFed.{MfcFed}
+use Rattle.mfc.specs.Receivers.{numberOfKind, bytesOf, fed, refusalIn, freshRecord}
+use Rattle.mfc.specs.Series.{marked, called, answers, bytesAfter, told, SeriesOverBytes}
+use Rattle.mfc.proofs.Carried.{kind-back, in-range, feed-again, silence-again}
+
+-- a record's bytes over another's: what is left is the last
+over-again : (lent xs ys : List ℕ) → length xs ≡ length ys → overlay (overlay lent 0 xs) 0 ys ≡ overlay lent 0 ys
+unfolding overlay
+over-again lent xs ys e =
+    let n : 0 + length ys ≡ length xs = omega arith in
+    let m : 0 + length xs ≡ 0 + length ys = omega arith in
+    ap (λ (k : ℕ). ys ++ drop k (xs ++ drop (0 + length xs) lent)) n
+    ∙ ap (λ (l : List ℕ). ys ++ l) (drop-append-seam xs (drop (0 + length xs) lent))
+    ∙ ap (λ (k : ℕ). ys ++ drop k lent) m
+
+same-size : (r s : Record) → inRange r ≡ true → inRange s ≡ true → length (bytesOf r) ≡ length (bytesOf s)
+same-size r s g h = omega (arith, in-range r g .0, in-range s h .0)
+
+-- a call's outcome as C is told it
+abbrev onRecord : List ℕ → Outcome → MfcFed × List ℕ × List ℕ
+onRecord lent o = (fed (o .result .said) (o .result .taken), overlay lent 0 (bytesOf (o .leaves)), o .result .buffer)
+
+-- a mark answers its number alone, which says as much
+abbrev markOn : List ℕ → Outcome → MfcFed × List ℕ × List ℕ
+markOn lent o = marked (refusalIn (o .result .said), overlay lent 0 (bytesOf (o .leaves)))
+
+mark-told : (lent : List ℕ) (r : Record) (t : Bool)
+    → markOn lent (quiet r (cond t (gave (refused (number 9))) nothing)) ≡ onRecord lent (quiet r (cond t (gave (refused (number 9))) nothing))
+mark-told lent r true = refl
+mark-told lent r false = refl
+
+-- a call on a record's bytes is the call on the record
+module _ (lent : List ℕ) (long : 264 ≤ length lent) (r : Record) (good : inRange r ≡ true) where
+  abbrev bytes : List ℕ
+  bytes = overlay lent 0 (bytesOf r)
+
+  put-over : (o : Outcome) → inRange (o .leaves) ≡ true → onRecord bytes o ≡ onRecord lent o
+  put-over o h =
+      ap (λ (l : List ℕ). (fed (o .result .said) (o .result .taken), l, o .result .buffer))
+      (over-again lent (bytesOf r) (bytesOf (o .leaves)) (same-size r (o .leaves) good h))
+
+  on-call : (call : Call) → inRange (outcome r call .leaves) ≡ true → called bytes call ≡ onRecord lent (outcome r call)
+  on-call (feeding piece frame) h = feed-again lent r long good piece frame ∙ put-over (feedOf r piece frame) h
+  on-call silence h =
+      ap marked (silence-again lent r long good)
+      ∙ ap (markOn bytes) (silence-said r good)
+      ∙ mark-told bytes r (pending r)
+      ∙ ap (onRecord bytes) (sym (silence-said r good))
+      ∙ put-over (silenceOf r) h
+
+-- a series after another
+after-append : (done calls : List Call) (r : Record) → recordAfter r (done ++ calls) ≡ recordAfter (recordAfter r done) calls
+unfolding recordAfter
+after-append [] calls r = refl
+after-append (call ∷ done) calls r = after-append done calls (outcome r call .leaves)
+
+module _ (kind : Kind) (lent : List ℕ) (long : 264 ≤ length lent) where
+  in-ranges : (done : List Call) → inRange (recordAfter (fresh kind) done) ≡ true
+  in-ranges done = rw (demand3 kind .end-record done) (demand3 kind .in-ranges (streamOf kind done))
+
+  record Goes (r : Record) (calls : List Call) : Type 0 where
+    gives : answers (overlay lent 0 (bytesOf r)) calls ≡ map told (results r calls)
+    leaves : bytesAfter (overlay lent 0 (bytesOf r)) calls ≡ overlay lent 0 (bytesOf (recordAfter r calls))
+
+  one-more : (done : List Call) (r : Record) (call : Call) → r ≡ recordAfter (fresh kind) done
+      → outcome r call .leaves ≡ recordAfter (fresh kind) (done ++ (call ∷ []))
+  unfolding recordAfter
+  one-more done r call e = ap (λ (x : Record). outcome x call .leaves) e ∙ sym (after-append done (call ∷ []) (fresh kind))
+
+  goes-call : (r : Record) (call : Call) (calls : List Call) → called (overlay lent 0 (bytesOf r)) call ≡ onRecord lent (outcome r call)
+      → Goes (outcome r call .leaves) calls → Goes r (call ∷ calls)
+  unfolding answers bytesAfter results recordAfter
+  goes-call r call calls e g = record { gives = rw (e, g .gives); leaves = rw e (g .leaves) }
+
+  goes : (calls done : List Call) (r : Record) → r ≡ recordAfter (fresh kind) done → Goes r calls
+  unfolding answers bytesAfter results recordAfter
+  goes [] done r e = record { gives = refl; leaves = refl }
+  goes (call ∷ calls) done r e =
+      let n = one-more done r call e in
+      let h : inRange (outcome r call .leaves) ≡ true = ap inRange n ∙ in-ranges (done ++ (call ∷ [])) in
+      let g : inRange r ≡ true = ap inRange e ∙ in-ranges done in
+      goes-call r call calls (on-call lent long r g call h) (goes calls (done ++ (call ∷ [])) (outcome r call .leaves) n)
+
+  fresh-bytes : freshRecord (numberOfKind kind) lent .1 ≡ overlay lent 0 (bytesOf (fresh kind))
+  unfolding freshRecord
+  fresh-bytes = rw (le-ltb (length lent) 264 long, kind-back kind)
+
+  from-fresh : (calls : List Call) → Goes (fresh kind) calls
+  unfolding recordAfter
+  from-fresh calls = goes calls [] (fresh kind) refl
+
+  pub series-over-bytes : SeriesOverBytes kind lent
+  series-over-bytes =
+      record {
+        each-call =
+            λ calls. ap (λ (l : List ℕ). answers l calls) fresh-bytes ∙ from-fresh calls .gives ∙ ap (map told) (demand3 kind .each-call calls);
+        end-record =
+            λ calls. ap (λ (l : List ℕ). bytesAfter l calls) fresh-bytes ∙ from-fresh calls .leaves
+            ∙ ap (λ (r : Record). overlay lent 0 (bytesOf r)) (demand3 kind .end-record calls);
+      }
