@@ -1,2 +1,3 @@
 -- Laws of the text.
 pub mod Decimal
+pub mod Example

@@ -1,2 +1,3 @@
 -- The program's lines of text.
 pub mod Text
+pub mod Program
