@@ -1,3 +1,4 @@
 -- Laws of the text.
 pub mod Decimal
 pub mod Example
+pub mod Listing
