@@ -5,7 +5,7 @@ use mathlib.Core.Path.{_≡_, refl, sym, ap, subst, _∙_}
 use mathlib.Core.Bool.{Bool, true, false, cond, _&&_, not, false≢true}
 use mathlib.Core.List.{List, [], _∷_, _++_, map, append-assoc, append-nil}
 use lib.Dec.{ltb, eqb}
-use lib.ListN.{length, take, drop, getD, length-append, take-append-drop}
+use lib.ListN.{length, take, drop, getD, replicate, length-append, length-replicate, take-append-drop}
 use lib.Seq.{drop-append-seam}
 use borrow.Author.Tests.{ltb-true, ltb-false, lt-ltb, le-ltb, eqb-true}
 use Rattle.refusal.specs.Refusals.{Numbered, number, _carrying_, Answered, served, refused}
@@ -422,6 +422,31 @@ some-taken kind stream r piece buffer e h l =
     let gives : feedOf r piece buffer .result .taken ≡ expected kind stream (feeding piece buffer) .taken =
     ap (λ (x : Result). x .taken) (meets-stream kind stream r e (feeding piece buffer) .gives) in
     omega (arith, gives, expected-taken kind stream piece buffer l, up-to-some kind piece stream h)
+
+-- a piece of one byte is taken whole where there is room
+one-byte : (kind : Kind) (stream : List Event) (b : ℕ) → length (upTo kind stream (b ∷ [])) ≡ 1
+unfolding upTo
+one-byte kind stream b = go (ltb (length (items kind stream)) (length (items kind (stream ++ (byte b ∷ [])))))
+  where
+    go : (t : Bool) → length (b ∷ cond t [] []) ≡ 1
+    go true = refl
+    go false = refl
+
+-- wherever a series stands, what is left can be handed in
+pub handed-in : (kind : Kind) (left stream : List Event) (r : Record) → r ≡ recordOf kind stream → (calls : List Call) × HandsIn r left calls
+unfolding HandsIn
+handed-in kind [] stream r e = ([], refl)
+handed-in kind (mark ∷ left) stream r e =
+    let t = handed-in kind left (stream ++ added kind stream silence) (outcome r silence .leaves) (leaves-stream kind stream r e silence) in
+    (silence ∷ t .0, (left, refl, t .1))
+handed-in kind (byte b ∷ left) stream r e =
+    let room : List ℕ = replicate 260 0 in
+    let call = feeding (b ∷ []) room in
+    let size : 260 ≤ length room = omega (arith, length-replicate {A = ℕ} 260 0) in
+    let one : feedOf r (b ∷ []) room .result .taken ≡ 1 =
+    ap (λ (x : Result). x .taken) (meets-stream kind stream r e call .gives) ∙ expected-taken kind stream (b ∷ []) room size ∙ one-byte kind stream b in
+    let t = handed-in kind left (stream ++ added kind stream call) (outcome r call .leaves) (leaves-stream kind stream r e call) in
+    (call ∷ t .0, (left, refl, subst (λ (m : ℕ). HandsIn (feedOf r (b ∷ []) room .leaves) (map byte (drop m (b ∷ [])) ++ left) (t .0)) (sym one) (t .1)))
 
 pub demand3 : (kind : Kind) → Demand3 kind
 unfolding items itemsFrom

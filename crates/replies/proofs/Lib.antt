@@ -12,3 +12,4 @@ pub mod Written
 pub mod Rewritten
 pub mod ReadBack
 pub mod OneToOne
+pub mod Accepted

@@ -14,3 +14,4 @@ pub mod RoundRead
 pub mod ReadBack
 pub mod OneToOne
 pub mod Plain
+pub mod ByNumber

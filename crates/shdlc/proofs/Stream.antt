@@ -9,14 +9,17 @@ use native.Mathlib.Omega.{arith}
 use lib.Dec.{eqb}
 use borrow.Author.Tests.{eqb-true}
 use lib.ListN.{length, length-append}
-use Rattle.refusal.specs.Refusals.{number, Answered, served, refused}
+use Rattle.refusal.specs.Refusals.{Numbered, number, Answered, served, refused, inOrder}
 use Rattle.shdlc.specs.declared.Kind.{Kind}
 use Rattle.shdlc.specs.Checksum.{checksumOf}
-use Rattle.shdlc.specs.Stuffing.{escapes, rightOf, sent, stuffByte, stuff}
+use Rattle.shdlc.specs.Stuffing.{escapes, rightOf, sent, stuffByte, stuff, unstuff}
 use Rattle.shdlc.specs.Body.{checkBody}
 use Rattle.shdlc.specs.Frame.{withChecksum, frameOf}
 use Rattle.shdlc.specs.Stream.{Event, byte, mark, Item, judgeBody, judge, Place, outside, inside, nextByte, next, gain, itemsFrom, items}
+use Rattle.refusal.proofs.Order.{passed, refused-not-served}
+use Rattle.shdlc.specs.Body.{bodyChecks, longest, shortest, lengthPlace}
 use Rattle.shdlc.proofs.Stuffing.{byte-short, each-byte, unstuff-stuff}
+use Rattle.shdlc.proofs.Restuffed.{Unbroken, restuffed}
 
 -- the place after a stream
 unfoldable pub placeFrom : Place → List Event → Place
@@ -33,11 +36,6 @@ pub items-append : (kind : Kind) (es fs : List Event) (place : Place)
 unfolding itemsFrom placeFrom
 items-append kind [] fs place = refl
 items-append kind (e ∷ es) fs place = rw (items-append kind es fs (next place e), append-assoc)
-
--- no byte of the list is 7E
-abbrev Unbroken : List ℕ → Type 0
-Unbroken [] = Unit {0}
-Unbroken (b ∷ bytes) = (eqb b 0x7E ≡ false) × Unbroken bytes
 
 unbroken-append : (xs ys : List ℕ) → Unbroken xs → Unbroken ys → Unbroken (xs ++ ys)
 unbroken-append [] ys h g = g
@@ -103,3 +101,33 @@ pub frame-items : (kind : Kind) (body : List ℕ) → checkBody kind (withChecks
 unfolding frameOf judgeBody
 frame-items kind body h =
     wire-items kind (withChecksum body) (omega (arith, length-append body (checksumOf body ∷ []))) ∙ ap (λ (r : Answered (List ℕ)). r ∷ []) h
+
+-- a stretch between two 7E has one item
+pub stretch-items : (kind : Kind) (s : List ℕ) → Unbroken s → 1 ≤ length s → items kind (map byte (0x7E ∷ s ++ (0x7E ∷ []))) ≡ judge kind s ∷ []
+unfolding items itemsFrom next nextByte gain
+stretch-items kind s u h =
+    rw (map-append s (0x7E ∷ []), items-append kind (map byte s) (byte 0x7E ∷ []) (inside []), run-items kind s [] u, run-place s [] u, closing kind s h)
+
+-- a body that is served is the one that was checked
+served-body : (kind : Kind) (b body : List ℕ) → checkBody kind b ≡ served body → b ≡ body
+unfolding checkBody
+served-body kind b body e = go (bodyChecks kind b) e
+  where
+    go : (checks : List (Bool × Numbered)) → inOrder checks b ≡ served body → b ≡ body
+    go [] h = let z : b ≡ body = cc in z
+    go (c ∷ cs) h = go cs (passed (c .0) (c .1) (inOrder cs b) body h .1)
+
+judged : (kind : Kind) (u : Answered (List ℕ)) (body : List ℕ) → judgeBody kind u ≡ served body → u ≡ served body
+unfolding judgeBody
+judged kind (served b) body e = ap served (served-body kind b body e)
+judged kind (refused n) body e = absurd (refused-not-served e)
+
+-- a frame has one form on the wire: what is read of a stretch and stuffed again comes to the same bytes
+pub one-wire : (kind : Kind) (s : List ℕ) → Unbroken s → (body : List ℕ) → items kind (map byte (0x7E ∷ s ++ (0x7E ∷ []))) ≡ served body ∷ []
+    → stuff body ≡ s
+unfolding judge items itemsFrom next nextByte gain
+one-wire kind [] u body e = let z : _≡_ {A = ℕ} 0 1 = ap length e in absurd (omega arith)
+one-wire kind (b ∷ s) u body e =
+    let both : judge kind (b ∷ s) ∷ [] ≡ served body ∷ [] = sym (stretch-items kind (b ∷ s) u (omega arith)) ∙ e in
+    let one : judge kind (b ∷ s) ≡ served body = cc in
+    restuffed (b ∷ s) u body (judged kind (unstuff (b ∷ s)) body one)
