@@ -1,17 +1,19 @@
 -- Laws of a frame: its parts, its length, and that it is laid down part by part. Assumes nothing.
 use mathlib.Core.Path.{_≡_, refl, sym, ap, _∙_}
-use mathlib.Core.Bool.{Bool, true, false, not}
-use mathlib.Core.List.{List, [], _∷_, _++_, append-assoc, append-nil}
+use mathlib.Core.Bool.{Bool, true, false, cond, not}
+use mathlib.Core.List.{List, [], _∷_, _++_, append-assoc}
 use Prim.Native.Nat.{ℕ, _+_, _-_, _*_, _/_, _%_, _≤_, _<_}
 use native.Mathlib.Omega.{arith}
-use lib.Dec.{ltb}
-use borrow.Author.Tests.{ne-eqb, lt-ltb, le-ltb, ltb-true, ltb-false}
+use lib.Dec.{ltb, eqb}
+use borrow.Author.Tests.{ne-eqb, lt-ltb, le-ltb, ltb-true, ltb-false, not-false}
 use lib.ListN.{length, set, length-set, length-append}
+use Rattle.refusal.specs.Refusals.{number, Answered, served, refused}
 use Rattle.refusal.specs.Room.{overlay}
+use Rattle.refusal.proofs.Order.{refused-not-served}
 use Rattle.refusal.proofs.Room.{write-then, set-overlay, emit-served, emit-refused}
 use Rattle.shdlc.specs.Checksum.{sum, checksumOf}
 use Rattle.shdlc.specs.Stuffing.{stuffByte, stuff}
-use Rattle.shdlc.specs.Frame.{frameOf, writeFrame}
+use Rattle.shdlc.specs.Frame.{putAt, frameOf, writeFrame}
 use Rattle.shdlc.specs.Paper.{writtenOf}
 use Rattle.shdlc.proofs.Stuffing.{stuff-append, stuff-one, stuff-short, byte-short}
 
@@ -24,6 +26,15 @@ frame-length body =
     let a = length-append (((0x7E ∷ []) ++ stuff body) ++ stuffByte (checksumOf body)) (0x7E ∷ []) in
     let b = length-append (stuff body) (stuffByte (checksumOf body)) in
     ap length (frame-parts body) ∙ omega arith
+
+-- a length that stands for an answer that serves
+pub written-served : (n m : ℕ) → writtenOf n ≡ served m → n ≡ m
+unfolding writtenOf
+written-served n m = go (eqb n 0)
+  where
+    go : (t : Bool) → cond t (refused (number 1)) (served n) ≡ served m → n ≡ m
+    go true h = absurd (refused-not-served h)
+    go false h = cc
 
 -- a frame that fits, laid down part by part
 module _ (body room : List ℕ) (fits : length (frameOf body) ≤ length room) where
@@ -119,6 +130,9 @@ not-true false e = refl
 pub roomy-holds : (half n : ℕ) (test : Bool) → test ≡ not (ltb half n) → test ≡ true → n ≤ half
 roomy-holds half n test e h = ltb-false _ _ (not-true _ (sym e ∙ h))
 
+pub not-roomy : (half n : ℕ) (test : Bool) → test ≡ not (ltb half n) → test ≡ false → half < n
+not-roomy half n test e h = ltb-true _ _ (not-false _ (sym e ∙ h))
+
 -- a test of the room, where it is too short and where it is not
 module _ (body room : List ℕ) {test : Bool} (e : test ≡ ltb (length room) (length (frameOf body))) where
   pub no-frame : test ≡ true → (writtenOf 0, room) ≡ writeFrame body room
@@ -128,14 +142,22 @@ module _ (body room : List ℕ) {test : Bool} (e : test ≡ ltb (length room) (l
   pub fits-room : test ≡ false → length (frameOf body) ≤ length room
   fits-room h = ltb-false _ _ (sym e ∙ h)
 
--- a body is one in three parts of which two are empty
-module _ (body room : List ℕ) where
-  pub one-part : (n : ℕ) (after : List ℕ) → (writtenOf n, after) ≡ writeFrame (body ++ []) room → (writtenOf n, after) ≡ writeFrame body room
-  one-part n after e = rw (append-nil body) at e
+-- one byte at a place, where it fits and where it does not
+module _ (room : List ℕ) (place b : ℕ) where
+  pub put-served : place + length (stuffByte b) ≤ length room → {n : ℕ} {after : List ℕ}
+      → (n ≡ place + length (stuffByte b)) × (after ≡ overlay room place (stuffByte b)) → (writtenOf n, after) ≡ putAt room place b
+  unfolding writtenOf
+  put-served h {n} e =
+      let some : (n ≡ 0 → ⊥) = λ z. omega (arith, byte-short b .0, e .0) in
+      rw (ne-eqb _ _ some, le-ltb _ _ h, e .0, e .1)
 
-  pub one-roomy : {test : Bool} → test ≡ not (ltb (length room / 2) (length body + 0 + 2)) → test ≡ true → length (frameOf body) ≤ length room
-  one-roomy e h = rw (append-nil body) at (parts-roomy body [] [] (length room) (roomy-holds _ _ _ e h))
+  pub put-refused : length room < place + length (stuffByte b) → (writtenOf 0, room) ≡ putAt room place b
+  unfolding writtenOf
+  put-refused h = rw (lt-ltb _ _ h)
 
-pub one-sum : (body : List ℕ) (total : ℕ) → total ≡ (0 + sum body) % 256 → 255 - total ≡ checksumOf body
-unfolding checksumOf
-one-sum body total e = omega (arith, e)
+  -- and back: where it fits, what such a call did
+  pub put-done : place + length (stuffByte b) ≤ length room → {n : ℕ} {after : List ℕ} → (writtenOf n, after) ≡ putAt room place b
+      → (n ≡ place + length (stuffByte b)) × (after ≡ overlay room place (stuffByte b))
+  put-done h {n} e =
+      let f = rw (le-ltb _ _ h) at e in
+      (written-served n _ (ap (λ (x : Answered ℕ × List ℕ). x .0) f), ap (λ (x : Answered ℕ × List ℕ). x .1) f)

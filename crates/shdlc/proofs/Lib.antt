@@ -4,4 +4,5 @@ pub mod Restuffed
 pub mod Body
 pub mod Frame
 pub mod Stream
+pub mod ReadBack
 pub mod OneToOne

@@ -9,12 +9,8 @@ use lib.Dec.{eqb}
 use borrow.Author.Tests.{eqb-true}
 use Rattle.refusal.specs.Refusals.{number, Answered, served, refused}
 use Rattle.refusal.proofs.Order.{refused-not-served}
+use Rattle.shdlc.specs.ReadBack.{Unbroken}
 use Rattle.shdlc.specs.Stuffing.{escapes, rightOf, leftOf, sent, stuffByte, stuff, isControl, prepend, meant, unstuff, unstuffEscaped}
-
--- no byte of the list is 7E
-abbrev pub Unbroken : List ℕ → Type 0
-Unbroken [] = Unit {0}
-Unbroken (b ∷ bytes) = (eqb b 0x7E ≡ false) × Unbroken bytes
 
 served-same : (a b : List ℕ) → _≡_ {A = Answered (List ℕ)} (served a) (served b) → a ≡ b
 served-same a b e = cc

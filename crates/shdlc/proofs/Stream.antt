@@ -15,11 +15,12 @@ use Rattle.shdlc.specs.Checksum.{checksumOf}
 use Rattle.shdlc.specs.Stuffing.{escapes, rightOf, sent, stuffByte, stuff, unstuff}
 use Rattle.shdlc.specs.Body.{checkBody}
 use Rattle.shdlc.specs.Frame.{withChecksum, frameOf}
+use Rattle.shdlc.specs.ReadBack.{Unbroken, closed}
 use Rattle.shdlc.specs.Stream.{Event, byte, mark, Item, judgeBody, judge, Place, outside, inside, nextByte, next, gain, itemsFrom, items}
 use Rattle.refusal.proofs.Order.{passed, refused-not-served}
 use Rattle.shdlc.specs.Body.{bodyChecks, longest, shortest, lengthPlace}
 use Rattle.shdlc.proofs.Stuffing.{byte-short, each-byte, unstuff-stuff}
-use Rattle.shdlc.proofs.Restuffed.{Unbroken, restuffed}
+use Rattle.shdlc.proofs.Restuffed.{restuffed}
 
 -- the place after a stream
 unfoldable pub placeFrom : Place → List Event → Place
@@ -47,7 +48,7 @@ unbroken-byte =
     each-byte (λ b. Unbroken (stuffByte b)) (refl, (refl, tt)) (refl, (refl, tt)) (refl, (refl, tt)) (refl, (refl, tt))
     (λ b p q r s. rw (p, q, r, s) (p, tt))
 
-unbroken-stuff : (bytes : List ℕ) → Unbroken (stuff bytes)
+pub unbroken-stuff : (bytes : List ℕ) → Unbroken (stuff bytes)
 unfolding stuff
 unbroken-stuff [] = tt
 unbroken-stuff (b ∷ bytes) = unbroken-append (stuffByte b) (stuff bytes) (unbroken-byte b) (unbroken-stuff bytes)
@@ -86,9 +87,8 @@ stuffed-some [] h = omega arith
 stuffed-some (b ∷ bytes) h = omega (arith, length-append (stuffByte b) (stuff bytes), byte-short b .0)
 
 -- a frame on the wire has one item, that of its stretch
-pub wire-items : (kind : Kind) (bytes : List ℕ) → 1 ≤ length bytes
-    → items kind (map byte (0x7E ∷ stuff bytes ++ (0x7E ∷ []))) ≡ judgeBody kind (served bytes) ∷ []
-unfolding items itemsFrom next nextByte gain judge
+pub wire-items : (kind : Kind) (bytes : List ℕ) → 1 ≤ length bytes → items kind (map byte (closed (stuff bytes))) ≡ checkBody kind bytes ∷ []
+unfolding items itemsFrom next nextByte gain judge judgeBody
 wire-items kind bytes h =
     let s = stuff bytes in
     let u = unbroken-stuff bytes in
@@ -103,7 +103,7 @@ frame-items kind body h =
     wire-items kind (withChecksum body) (omega (arith, length-append body (checksumOf body ∷ []))) ∙ ap (λ (r : Answered (List ℕ)). r ∷ []) h
 
 -- a stretch between two 7E has one item
-pub stretch-items : (kind : Kind) (s : List ℕ) → Unbroken s → 1 ≤ length s → items kind (map byte (0x7E ∷ s ++ (0x7E ∷ []))) ≡ judge kind s ∷ []
+pub stretch-items : (kind : Kind) (s : List ℕ) → Unbroken s → 1 ≤ length s → items kind (map byte (closed s)) ≡ judge kind s ∷ []
 unfolding items itemsFrom next nextByte gain
 stretch-items kind s u h =
     rw (map-append s (0x7E ∷ []), items-append kind (map byte s) (byte 0x7E ∷ []) (inside []), run-items kind s [] u, run-place s [] u, closing kind s h)
@@ -123,11 +123,10 @@ judged kind (served b) body e = ap served (served-body kind b body e)
 judged kind (refused n) body e = absurd (refused-not-served e)
 
 -- a frame has one form on the wire: what is read of a stretch and stuffed again comes to the same bytes
-pub one-wire : (kind : Kind) (s : List ℕ) → Unbroken s → (body : List ℕ) → items kind (map byte (0x7E ∷ s ++ (0x7E ∷ []))) ≡ served body ∷ []
-    → stuff body ≡ s
+pub one-wire : (kind : Kind) (s : List ℕ) → Unbroken s → (body : List ℕ) → items kind (map byte (closed s)) ≡ served body ∷ [] → s ≡ stuff body
 unfolding judge items itemsFrom next nextByte gain
 one-wire kind [] u body e = let z : _≡_ {A = ℕ} 0 1 = ap length e in absurd (omega arith)
 one-wire kind (b ∷ s) u body e =
     let both : judge kind (b ∷ s) ∷ [] ≡ served body ∷ [] = sym (stretch-items kind (b ∷ s) u (omega arith)) ∙ e in
     let one : judge kind (b ∷ s) ≡ served body = cc in
-    restuffed (b ∷ s) u body (judged kind (unstuff (b ∷ s)) body one)
+    sym (restuffed (b ∷ s) u body (judged kind (unstuff (b ∷ s)) body one))

@@ -5,3 +5,4 @@ pub mod Body
 pub mod Frame
 pub mod Stream
 pub mod Paper
+pub mod ReadBack

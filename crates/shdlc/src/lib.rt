@@ -1,4 +1,4 @@
-// Frames on the wire: checksum, byte stuffing, the checks of a body, and the writer of a whole frame.
+// Frames on the wire: checksum, byte stuffing, the checks of a body, and the writer of a frame from its parts.
 use refusal::Refusal;
 ghost use mathlib.Core.Path.{_≡_};
 ghost use mathlib.Core.Bool.{cond, not};
@@ -148,15 +148,32 @@ fn put_byte(out: &mut [u8], place: usize, b: u8) -> usize
     place + 1
 }
 
-// The same at any place of any room: where fewer than two bytes are left there, nothing is written and the place is answered.
-pub fn put_at(out: &mut [u8], place: usize, b: u8) -> usize
-    ensures { λ r. ⌜ (r, now (out .exit)) ≡ putAt (now (out .entry)) place b ⌝ }
+// Whether two bytes are left from a place on.
+fn has_two(room: usize, place: usize) -> bool
+    ensures { λ r. ⌜ r ≡ not (ltb room (place + 2)) ⌝ }
 {
-    if out.len() < 2 {
-        return place;
+    if room < 2 {
+        return false;
     }
-    if out.len() - 2 < place {
-        return place;
+    if room - 2 < place {
+        return false;
+    }
+    true
+}
+
+// The same at any place of any room; 0 where the room is too short.
+pub fn put_at(out: &mut [u8], place: usize, b: u8) -> usize
+    ensures { λ r. ⌜ (writtenOf r, now (out .exit)) ≡ putAt (now (out .entry)) place b ⌝ }
+{
+    // Asked first, since two bytes hold any byte: where a caller's room is known the rest is left out.
+    if has_two(out.len(), place) {
+        return put_byte(out, place, b);
+    }
+    if is_escaped(b) {
+        return 0;
+    }
+    if out.len() <= place {
+        return 0;
     }
     put_byte(out, place, b)
 }
@@ -310,18 +327,6 @@ pub fn lay_parts(first: &[u8], second: &[u8], third: &[u8], out: &mut [u8]) -> u
     finish(out, c.place, c.total)
 }
 
-// The same of a body in one part.
-pub fn lay_frame(body: &[u8], out: &mut [u8]) -> usize
-    ensures { λ r. ⌜ (writtenOf r, now (out .exit)) ≡ writeFrame (now (body .entry)) (now (out .entry)) ⌝ }
-{
-    if !is_roomy(body.len(), 0, out.len()) {
-        return lay_parts(body, &[], &[], out);
-    }
-    out[0] = 0x7E;
-    let a = put_stuffed(out, 1, 0, body);
-    finish(out, a.place, a.total)
-}
-
 // What a writer answers of such a length.
 pub fn written_of(n: usize) -> Written
     ensures { λ r. ⌜ paperWritten r ≡ writtenOf n ⌝ }
@@ -330,11 +335,4 @@ pub fn written_of(n: usize) -> Written
         return Written::Refused(Refusal::NoRoom);
     }
     Written::Done(n)
-}
-
-// Writes the frame of a body without its checksum at the start of the lent room.
-pub fn write_frame(body: &[u8], out: &mut [u8]) -> Written
-    ensures { λ r. ⌜ (paperWritten r, now (out .exit)) ≡ writeFrame (now (body .entry)) (now (out .entry)) ⌝ }
-{
-    written_of(lay_frame(body, out))
 }
