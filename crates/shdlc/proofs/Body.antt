@@ -9,12 +9,16 @@ use borrow.Author.Tests.{lt-ltb, le-ltb, eq-eqb, ne-eqb, ltb-false, eqb-true}
 use lib.ListN.{length, getD, take, length-append}
 use lib.Seq.{take-at, getD-at, take-all, take-suc}
 use Rattle.refusal.specs.Refusals.{number, served, refused, inOrder}
+use Rattle.refusal.specs.declared.Refusal.the-variants.{WrongLength, WrongChecksum}
 use Rattle.refusal.proofs.Order.{passed}
+use Rattle.shdlc.specs.declared.Checked.{Checked}
+use Rattle.shdlc.specs.declared.Checked.the-variants.{Good, Refused}
 use Rattle.shdlc.specs.declared.Kind.{Kind}
 use Rattle.shdlc.specs.declared.Kind.the-variants.{Request, Reply}
 use Rattle.shdlc.specs.Checksum.{checksumOf}
 use Rattle.shdlc.specs.Body.{shortest, longest, lengthPlace, checkBody}
 use Rattle.shdlc.specs.Frame.{withChecksum}
+use Rattle.shdlc.specs.Paper.{paperChecked}
 
 -- a sum modulo 256, taken byte by byte
 pub sum-step : (s b t : ℕ) → ((s + b) % 256 + t) % 256 ≡ (s + (b + t)) % 256
@@ -28,7 +32,7 @@ pub shortest-is : (kind : Kind) → (4 ≤ shortest kind) × (longest kind ≡ s
 shortest-is Request = (omega arith, refl)
 shortest-is Reply = (omega arith, refl)
 
--- the five answers of the checks, in the order of the tests
+-- the answers of the checks, in the order of the tests
 module _ (kind : Kind) (body : List ℕ) where
   pub body-long : longest kind < length body → checkBody kind body ≡ refused (number 5)
   unfolding checkBody
@@ -40,18 +44,26 @@ module _ (kind : Kind) (body : List ℕ) where
     body-short h = rw (le-ltb _ _ most, lt-ltb _ _ h)
 
     module _ (least : shortest kind ≤ length body) where
-      pub body-length : (getD body (lengthPlace kind) 0 ≡ length body - shortest kind → ⊥) → checkBody kind body ≡ refused (number 7)
+      -- L, then the checksum
+      pub body-judged : (l size sum : ℕ) (answer : Checked) → l ≡ getD body (lengthPlace kind) 0 → size ≡ length body - shortest kind
+          → sum ≡ checksumOf (take (length body - 1) body)
+          → answer ≡ cond (not (eqb l size)) (Refused WrongLength) (cond (not (eqb (getD body (length body - 1) 0) sum)) (Refused WrongChecksum) Good)
+          → paperChecked body answer ≡ checkBody kind body
       unfolding checkBody
-      body-length h = rw (le-ltb _ _ most, le-ltb _ _ least, ne-eqb _ _ h)
+      body-judged l size sum answer e f g h =
+          rw (h, e, f, g, le-ltb _ _ most, le-ltb _ _ least)
+          (go (not (eqb (getD body (lengthPlace kind) 0) (length body - shortest kind))) (not (eqb (getD body (length body - 1) 0) (checksumOf (take (length body - 1) body)))))
+        where
+          go : (x y : Bool) → paperChecked body (cond x (Refused WrongLength) (cond y (Refused WrongChecksum) Good))
+              ≡ cond x (refused (number 7)) (cond y (refused (number 8)) (served body))
+          go true y = refl
+          go false true = refl
+          go false false = refl
 
-      module _ (length-right : getD body (lengthPlace kind) 0 ≡ length body - shortest kind) where
-        pub body-sum : (getD body (length body - 1) 0 ≡ checksumOf (take (length body - 1) body) → ⊥) → checkBody kind body ≡ refused (number 8)
-        unfolding checkBody
-        body-sum h = rw (le-ltb _ _ most, le-ltb _ _ least, eq-eqb _ _ length-right, ne-eqb _ _ h)
-
-        pub body-good : getD body (length body - 1) 0 ≡ checksumOf (take (length body - 1) body) → checkBody kind body ≡ served body
-        unfolding checkBody
-        body-good h = rw (le-ltb _ _ most, le-ltb _ _ least, eq-eqb _ _ length-right, eq-eqb _ _ h)
+      pub body-good : getD body (lengthPlace kind) 0 ≡ length body - shortest kind
+          → getD body (length body - 1) 0 ≡ checksumOf (take (length body - 1) body) → checkBody kind body ≡ served body
+      unfolding checkBody
+      body-good l h = rw (le-ltb _ _ most, le-ltb _ _ least, eq-eqb _ _ l, eq-eqb _ _ h)
 
 -- a body as it is written, with its checksum: `front` is what stands before L, two bytes of a request, three of a reply
 module _ (kind : Kind) (front payload : List ℕ) (before : length front ≡ lengthPlace kind) (short : length payload ≤ 255) where

@@ -76,6 +76,19 @@ fn longest_of(kind: Kind) -> usize
     }
 }
 
+// L comes before the checksum.
+fn judged(wrong_length: bool, wrong_sum: bool) -> Checked
+    ensures { λ r. ⌜ r ≡ cond «wrong_length» (Checked.Refused Refusal.WrongLength) (cond «wrong_sum» (Checked.Refused Refusal.WrongChecksum) Checked.Good) ⌝ }
+{
+    if wrong_length {
+        return Checked::Refused(Refusal::WrongLength);
+    }
+    if wrong_sum {
+        return Checked::Refused(Refusal::WrongChecksum);
+    }
+    Checked::Good
+}
+
 // The checks 5, 6, 7 and 8 over an unstuffed body, checksum included.
 pub fn check_body(kind: Kind, body: &[u8]) -> Checked
     ensures { λ r. ⌜ paperChecked (now (body .entry)) r ≡ checkBody kind (now (body .entry)) ⌝ }
@@ -88,14 +101,10 @@ pub fn check_body(kind: Kind, body: &[u8]) -> Checked
     if n < least {
         return Checked::Refused(Refusal::BodyTooShort);
     }
-    if wide(body[least - 2]) != n - least {
-        return Checked::Refused(Refusal::WrongLength);
-    }
     let last = n - 1;
-    if body[last] != checksum(&body[..last]) {
-        return Checked::Refused(Refusal::WrongChecksum);
-    }
-    Checked::Good
+    let wrong_length = wide(body[least - 2]) != n - least;
+    let wrong_sum = body[last] != checksum(&body[..last]);
+    judged(wrong_length, wrong_sum)
 }
 
 // Whether b is sent after a 7D, with 20 hex added to it by exclusive or.
