@@ -1,6 +1,6 @@
--- A request is the one of its number and of the number that it carries. Assumes nothing.
+-- A request is the one of its number and of the number that it carries, row by row. Assumes nothing.
 use mathlib.Core.Path.{_≡_, refl, ap}
-use Prim.Native.Nat.{ℕ, _<_, _^_, min}
+use Prim.Native.Nat.{ℕ, _≤_}
 use native.Mathlib.Omega.{arith}
 use lib.Ieee.{binary32, toBits, ofBits}
 use lib.Ieee.Bits.{ofBits-toBits}
@@ -9,26 +9,26 @@ use Rattle.sfc6.specs.declared.Request.the-variants.{GetSetpoint, SetSet
 use Rattle.sfc6.specs.Commands.{row, requestAt, placeOf, valueOf}
 use Rattle.sfc6.specs.ReadBack.{Fits}
 
-pub by-number : (q : Request) → Fits (row q .value) → requestAt (placeOf q) (valueOf q) ≡ q
+pub by-number : (q : Request) → Fits (row q .value) → (placeOf q ≤ 20) × (requestAt (placeOf q) (valueOf q) ≡ q)
 unfolding row placeOf valueOf
-by-number GetSetpoint h = refl
-by-number (SetSetpoint x) h = ap SetSetpoint (ofBits-toBits binary32 x h)
-by-number MeasuredValue h = refl
-by-number GetGain h = refl
-by-number (SetGain x) h = ap SetGain (ofBits-toBits binary32 x h)
-by-number GetInitStep h = refl
-by-number (SetInitStep x) h = ap SetInitStep (ofBits-toBits binary32 x h)
-by-number RawFlow h = refl
-by-number RawConductivity h = refl
-by-number Temperature h = refl
-by-number NumberOfCalibrations h = refl
-by-number (Validity n) h = refl
-by-number FullScale h = refl
-by-number GetCalibration h = refl
-by-number (SetCalibration n) h = refl
-by-number (VolatileCalibration n) h = refl
-by-number GetAddress h = refl
-by-number (SetAddress a) h = let e : min a 255 ≡ a = omega arith in ap SetAddress e
-by-number GetBaud h = refl
-by-number (SetBaud n) h = refl
-by-number ProductType h = refl
+by-number GetSetpoint h = (omega arith, refl)
+by-number (SetSetpoint x) h = (omega arith, ap SetSetpoint (ofBits-toBits binary32 x h))
+by-number MeasuredValue h = (omega arith, refl)
+by-number GetGain h = (omega arith, refl)
+by-number (SetGain x) h = (omega arith, ap SetGain (ofBits-toBits binary32 x h))
+by-number GetInitStep h = (omega arith, refl)
+by-number (SetInitStep x) h = (omega arith, ap SetInitStep (ofBits-toBits binary32 x h))
+by-number RawFlow h = (omega arith, refl)
+by-number RawConductivity h = (omega arith, refl)
+by-number Temperature h = (omega arith, refl)
+by-number NumberOfCalibrations h = (omega arith, refl)
+by-number (Validity n) h = (omega arith, refl)
+by-number FullScale h = (omega arith, refl)
+by-number GetCalibration h = (omega arith, refl)
+by-number (SetCalibration n) h = (omega arith, refl)
+by-number (VolatileCalibration n) h = (omega arith, refl)
+by-number GetAddress h = (omega arith, refl)
+by-number (SetAddress a) h = (omega arith, refl)
+by-number GetBaud h = (omega arith, refl)
+by-number (SetBaud n) h = (omega arith, refl)
+by-number ProductType h = (omega arith, refl)

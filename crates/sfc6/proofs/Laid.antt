@@ -5,7 +5,7 @@ use mathlib.Core.List.{List, [], _∷_, _++_, append-assoc, append-nil}
 use Prim.Native.Nat.{ℕ, zero, suc, _+_, _-_, _/_, _%_, _≤_, _<_}
 use native.Mathlib.Nat.{div-one}
 use native.Mathlib.Omega.{arith}
-use borrow.Author.Tests.{le-ltb, ne-eqb}
+use borrow.Author.Tests.{ne-eqb}
 use lib.ListN.{length, set, take, length-append}
 use Rattle.refusal.specs.Room.{overlay}
 use Rattle.refusal.proofs.Room.{overlay-nothing, set-overlay, set-two, write-then}
@@ -15,7 +15,8 @@ use Rattle.shdlc.specs.Checksum.{sum, checksumOf}
 use Rattle.shdlc.specs.Stuffing.{stuffByte, stuff}
 use Rattle.shdlc.specs.Frame.{putAt, frameOf}
 use Rattle.shdlc.proofs.Stuffing.{byte-short, stuff-append, stuff-short}
-use Rattle.shdlc.proofs.Frame.{frame-parts, frame-length, sum-append}
+use Rattle.shdlc.specs.Paper.{writtenOf}
+use Rattle.shdlc.proofs.Frame.{frame-parts, frame-length, sum-append, put-done}
 use Rattle.sfc6.specs.declared.Subcommand.{Subcommand}
 use Rattle.sfc6.specs.declared.Subcommand.the-variants as sub
 use Rattle.sfc6.specs.declared.Value.{Value}
@@ -43,11 +44,11 @@ abbrev pub Wrote : List ℕ → ℕ → List ℕ → ℕ → List ℕ → Type 0
 Wrote room place bytes next after = (next ≡ place + length bytes) × (after ≡ overlay room place bytes)
 
 -- one byte, stuffed
-pub put-wrote : (room : List ℕ) (place b : ℕ) {next : ℕ} {after : List ℕ} → place + 2 ≤ length room → (next, after) ≡ putAt room place b
+pub put-wrote : (room : List ℕ) (place b : ℕ) {next : ℕ} {after : List ℕ} → place + 2 ≤ length room → (writtenOf next, after) ≡ putAt room place b
     → Wrote room place (stuffByte b) next after
 put-wrote room place b h e =
-    let f = rw (le-ltb (length room) (place + 2) h) at e in
-    (ap (λ (x : ℕ × List ℕ). x .0) f, ap (λ (x : ℕ × List ℕ). x .1) f)
+    let fits : place + length (stuffByte b) ≤ length room = omega (arith, byte-short b .1) in
+    put-done room place b fits e
 
 pub set-wrote : (room : List ℕ) (place b : ℕ) → place < length room → Wrote room place (b ∷ []) (place + 1) (set room place b)
 set-wrote room place b h = (refl, set-overlay room place b h)

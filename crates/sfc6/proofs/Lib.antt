@@ -15,3 +15,4 @@ pub mod ReadBack
 pub mod OneToOne
 pub mod Plain
 pub mod ByNumber
+pub mod Numbered

@@ -1,23 +1,27 @@
 -- A body that is read and written again comes to the same bytes. Assumes nothing.
 use mathlib.Core.Path.{_≡_, refl, sym, ap, subst, _∙_}
 use mathlib.Core.Bool.{Bool, true, false, cond, not, _&&_, true≢false}
-use mathlib.Core.List.{List, [], _∷_, _++_}
+use mathlib.Core.List.{List, [], _∷_, _++_, map}
 use mathlib.Core.Option.{Option, none, some}
-use Prim.Native.Nat.{ℕ, zero, suc, _+_, _-_, _^_, min, _≤_, _<_}
+use Prim.Native.Nat.{ℕ, zero, suc, _+_, _-_, _^_, _≤_, _<_}
 use native.Mathlib.Omega.{arith}
-use lib.Dec.{T, eqb, ltb}
+use lib.Dec.{T, eqb}
 use lib.ListN.{length, take, drop, getD, length-append, length-take, length-drop}
 use lib.Seq.{getD-drop}
 use lib.Ieee.{Float, nan, inf, fin, binary32, isNan, toBits, ofBits}
 use lib.Ieee.Bits.{toBits-ofBits}
-use borrow.Author.Tests.{eqb-true, ltb-false}
+use borrow.Author.Tests.{eqb-true}
 use Rattle.refusal.specs.Refusals.{Answered, number, served}
-use Rattle.refusal.specs.Room.{emit}
+use Rattle.refusal.specs.Room.{emit, lay}
 use Rattle.shdlc.specs.declared.Kind.the-variants as kind
-use Rattle.shdlc.specs.Stuffing.{stuff}
+use Rattle.shdlc.specs.Stuffing.{stuffByte, stuff}
 use Rattle.shdlc.specs.Body.{bodyChecks, checkBody}
 use Rattle.shdlc.specs.Frame.{withChecksum, frameOf}
+use Rattle.shdlc.specs.ReadBack.{closed, Unbroken}
+use Rattle.shdlc.specs.Stream.{byte, items}
 use Rattle.shdlc.proofs.Body.{passes, checked-body}
+use Rattle.shdlc.proofs.Stuffing.{each-byte}
+use Rattle.shdlc.proofs.Stream.{one-wire}
 use Rattle.payload.specs.Field.{big, bigEndian, Bytes}
 use Rattle.payload.proofs.Big.{big-lt, big-endian-of-big}
 use Rattle.sfc6.specs.declared.Request.{Request}
@@ -28,13 +32,12 @@ use Rattle.sfc6.specs.declared.Subcommand.{Subcommand}
 use Rattle.sfc6.specs.declared.Subcommand.the-variants as sub
 use Rattle.sfc6.specs.declared.Row.{Row}
 use Rattle.sfc6.specs.Commands.{row, table, requestAt, finite, outOfRange, badFloat}
-use Rattle.sfc6.specs.Requests.{requestChecks, checkRequest, subBytes, valueBytes, dataOf, bodyOf, lay, writeRequest}
+use Rattle.sfc6.specs.Requests.{requestChecks, checkRequest, subBytes, valueBytes, dataOf, bodyOf, writeRequest}
 use Rattle.sfc6.specs.Reading.{startsWith, named, fitting, first, carried, foundOr, typed, payloadOf, andThen, readRequest}
 use Rattle.sfc6.proofs.Order.{never, serves-it, and-then-served}
 use Rattle.sfc6.proofs.Checks.{passed-request}
 use Rattle.sfc6.proofs.Reading.{first-passes, both, fits-length}
 use Rattle.sfc6.proofs.Laid.{bodyAt}
-use Rattle.sfc6.proofs.Table.{request-within}
 use Rattle.sfc6.proofs.Written.{to-write}
 
 -- a float's bits that are finite come back
@@ -47,11 +50,6 @@ not-nan (fin s m e) h = tt
 float-bytes : (n : ℕ) → n < 2 ^ 32 → not (finite (toBits binary32 (ofBits binary32 n))) ≡ false
     → bigEndian 4 (toBits binary32 (ofBits binary32 n)) ≡ bigEndian 4 n
 float-bytes n h g = ap (bigEndian 4) (toBits-ofBits binary32 n h (not-nan (ofBits binary32 n) g))
-
-address-bytes : (n : ℕ) → ltb 254 (min n 255) ≡ false → bigEndian 1 (min n 255) ≡ bigEndian 1 n
-address-bytes n h =
-    let e : min n 255 ≡ n = omega (arith, ltb-false 254 (min n 255) h) in
-    ap (bigEndian 1) e
 
 -- only the value of a row depends on the number that the request carries, and its bytes are those of the number
 pub record Carries (request : ℕ → Request) : Type 0 where
@@ -85,7 +83,7 @@ each =
     also record { command = λ n. refl; sub = λ n. refl; value = λ n h r g. refl }
     also record { command = λ n. refl; sub = λ n. refl; value = λ n h r g. refl }
     also record { command = λ n. refl; sub = λ n. refl; value = λ n h r g. refl }
-    also record { command = λ n. refl; sub = λ n. refl; value = λ n h r g. address-bytes n r }
+    also record { command = λ n. refl; sub = λ n. refl; value = λ n h r g. refl }
     also record { command = λ n. refl; sub = λ n. refl; value = λ n h r g. refl }
     also record { command = λ n. refl; sub = λ n. refl; value = λ n h r g. refl }
     also record { command = λ n. refl; sub = λ n. refl; value = λ n h r g. refl }
@@ -234,23 +232,41 @@ module _ (body : List ℕ) (address : ℕ) (request : Request) where
       ap withChecksum same ∙ sym (checked-body kind.Request body (r .checked))
 
   pub read-rewritten : Bytes body → readRequest body ≡ served (address, request)
-      → (room : List ℕ) → writeRequest address request room ≡ emit (0x7E ∷ stuff body ++ (0x7E ∷ [])) room
+      → (room : List ℕ) → writeRequest address request room ≡ emit (closed (stuff body)) room
   unfolding writeRequest frameOf
   read-rewritten bytes h room =
       let r = read-parts h in
       ap (λ (a : Answered (List ℕ)). lay a room) (to-write address request (r .request-passed))
-      ∙ ap (λ (b : List ℕ). emit (0x7E ∷ stuff b ++ (0x7E ∷ [])) room) (body-back bytes r)
+      ∙ ap (λ (b : List ℕ). emit (closed (stuff b)) room) (body-back bytes r)
 
--- the body at a place past the table or in it, of a request that passes its checks
-pub numbered-body : (address place n : ℕ) {p : ℕ} {asked : Row} → p ≡ min place 20 → asked ≡ row (requestAt place n) → n < 2 ^ 32
+-- the bytes of a body are those of its stretch, or of the table of escapes
+byte-unstuffed : (b : ℕ) (rest : List ℕ) → Bytes (stuffByte b ++ rest) → (b < 256) × Bytes rest
+unfolding stuffByte
+byte-unstuffed b rest =
+    each-byte (λ b. Bytes (stuffByte b ++ rest) → (b < 256) × Bytes rest) (λ h. (omega arith, λ i. h (suc (suc i))))
+    (λ h. (omega arith, λ i. h (suc (suc i)))) (λ h. (omega arith, λ i. h (suc (suc i)))) (λ h. (omega arith, λ i. h (suc (suc i))))
+    (λ b p q r s h. let g = rw (p, q, r, s) at h in (g 0, λ i. g (suc i))) b
+
+pub unstuffed-bytes : (body : List ℕ) → Bytes (stuff body) → Bytes body
+unfolding stuff
+unstuffed-bytes [] h i = h i
+unstuffed-bytes (b ∷ body) h zero = byte-unstuffed b (stuff body) h .0
+unstuffed-bytes (b ∷ body) h (suc i) = unstuffed-bytes body (byte-unstuffed b (stuff body) h .1) i
+
+-- the same from the wire on
+pub wire-rewritten : (stretch : List ℕ) → Bytes stretch → Unbroken stretch → (body : List ℕ)
+    → items kind.Request (map byte (closed stretch)) ≡ served body ∷ [] → (address : ℕ) (request : Request)
+    → readRequest body ≡ served (address, request) → (room : List ℕ) → writeRequest address request room ≡ emit (closed stretch) room
+wire-rewritten stretch bytes unbroken body e address request h room =
+    let is = one-wire kind.Request stretch unbroken body e in
+    read-rewritten body address request (unstuffed-bytes body (subst Bytes is bytes)) h room
+    ∙ ap (λ (s : List ℕ). emit (closed s) room) (sym is)
+
+-- the body at a place of the table, of a request that passes its checks
+pub numbered-body : (address place n : ℕ) → place ≤ 20 → n < 2 ^ 32
     → (outOfRange (row (requestAt place n) .value) ≡ false) × (badFloat (row (requestAt place n) .value) ≡ false)
-    → bodyAt address p n ≡ bodyOf address asked
+    → bodyAt address place n ≡ bodyOf address (row (requestAt place n))
 unfolding bodyOf dataOf
-numbered-body address place n {p} e f small passed =
-    let q = requestAt p in
-    let in-table : p ≤ 20 = omega arith in
-    let c = carries-at p in-table in
-    let same : row (q n) ≡ row (requestAt place n) = rw e (ap row (request-within place n)) in
-    let range = ap (λ (r : Row). outOfRange (r .value)) same ∙ passed .0 in
-    let float = ap (λ (r : Row). badFloat (r .value)) same ∙ passed .1 in
-    rw (f, ← same, c .command n, c .sub n, c .value n small range float)
+numbered-body address place n in-table small passed =
+    let c = carries-at place in-table in
+    rw (c .command n, c .sub n, c .value n small (passed .0) (passed .1))

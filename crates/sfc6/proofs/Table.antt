@@ -80,15 +80,6 @@ pub value-told : (q : Request) {r : Row} {is : Value} {n : ℕ} → r ≡ row q 
 unfolding valueOf
 value-told q f e p = p ∙ sym (ap valueIn e) ∙ ap (λ (x : Row). valueIn (x .value)) f
 
--- a place past the table is the last
-pub request-within : (place n : ℕ) → requestAt (min place 20) n ≡ requestAt place n
-request-within place n = go (ltb place 20) refl
-  where
-    go : (t : Bool) → ltb place 20 ≡ t → requestAt (min place 20) n ≡ requestAt place n
-    go true e =
-        let is : min place 20 ≡ place = omega (arith, ltb-true place 20 e) in
-        ap (λ (k : ℕ). requestAt k n) is
-    go false e =
-        let past : 20 ≤ place = ltb-false place 20 e in
-        let is : min place 20 ≡ 20 = omega arith in
-        ap (λ (k : ℕ). requestAt k n) is ∙ request-last place n (none-below place 20 past)
+-- a byte is its own last byte
+pub low-byte : (n : ℕ) {m : ℕ} → n < 256 → m ≡ n % 256 → m ≡ n
+low-byte n h e = omega (arith, e)

@@ -24,9 +24,9 @@ use Rattle.sfc6.specs.declared.Request.the-variants.{ProductType}
 use Rattle.sfc6.specs.declared.Row.{Row}
 use Rattle.sfc6.specs.Commands.{row, requestAt, finite, member, bauds, outOfRange, badFloat}
 use Rattle.sfc6.specs.Requests.{requestChecks, checkRequest, dataOf, bodyOf, frameToWrite, writeRequest}
-use Rattle.sfc6.specs.Rounds.{appendRequest}
+use Rattle.sfc6.specs.Rounds.{from}
 use Rattle.sfc6.specs.Paper.{paperPassed}
-use Rattle.sfc6.proofs.Checks.{passed-value}
+use Rattle.sfc6.proofs.Checks.{passed-value, passed-request}
 use Rattle.sfc6.proofs.Floats.{nan-or-not}
 use Rattle.sfc6.proofs.Table.{NoneBelow, request-last}
 use Rattle.sfc6.proofs.Order.{never, first-refuses, then-more}
@@ -66,7 +66,7 @@ module _ (address : ℕ) (r : Row) (c : Checked)
 -- the same of the request at a place: what a check answers is what the definition says of it
 module _ (address : ℕ) where
   abbrev pub Says : Request → Checked → Type 0
-  Says request c = paperPassed (frameOf (bodyOf address (row request))) c ≡ frameToWrite address request
+  Says request c = paperPassed (address, request) c ≡ checkRequest address request
 
   pub says-known : (place k n : ℕ) (c : Checked) → place ≡ k → Says (requestAt k n) c → Says (requestAt place n) c
   says-known place k n c e h = subst (λ (m : ℕ). Says (requestAt m n) c) (sym e) h
@@ -74,39 +74,40 @@ module _ (address : ℕ) where
   pub says-last : (place n : ℕ) (c : Checked) → NoneBelow place 20 → Says ProductType c → Says (requestAt place n) c
   says-last place n c none h = subst (λ (q : Request). Says q c) (request-last place n none) h
 
-module _ (frame : List ℕ) (n : ℕ) {c : Checked} where
+module _ {A : Type 0} (a : A) (n : ℕ) {c : Checked} where
   pub float-checked : n < 2 ^ 32 → c ≡ cond (finite n) Good (Refused BadFloat)
-      → paperPassed frame c ≡ cond (not (finite (toBits binary32 (ofBits binary32 n)))) (refused (number 13)) (served frame)
+      → paperPassed a c ≡ cond (not (finite (toBits binary32 (ofBits binary32 n)))) (refused (number 13)) (served a)
   float-checked h e = rw (nan-or-not n h, e) (go (finite n))
     where
-      go : (t : Bool) → paperPassed frame (cond t Good (Refused BadFloat)) ≡ cond (not t) (refused (number 13)) (served frame)
+      go : (t : Bool) → paperPassed a (cond t Good (Refused BadFloat)) ≡ cond (not t) (refused (number 13)) (served a)
       go true = refl
       go false = refl
 
   pub baud-checked : c ≡ cond (member n bauds) Good (Refused OutOfRange)
-      → paperPassed frame c ≡ cond (not (member n bauds)) (refused (number 12)) (served frame)
+      → paperPassed a c ≡ cond (not (member n bauds)) (refused (number 12)) (served a)
   baud-checked e = rw e (go (member n bauds))
     where
-      go : (t : Bool) → paperPassed frame (cond t Good (Refused OutOfRange)) ≡ cond (not t) (refused (number 12)) (served frame)
+      go : (t : Bool) → paperPassed a (cond t Good (Refused OutOfRange)) ≡ cond (not t) (refused (number 12)) (served a)
       go true = refl
       go false = refl
 
   pub address-checked : (address : ℕ) → c ≡ cond (ltb 254 n) (Refused OutOfRange) (cond (eqb address 255) (Refused AddressBroadcast) Good)
-      → paperPassed frame c ≡ cond (ltb 254 (min n 255)) (refused (number 12)) (cond (eqb address 255) (refused (number 10)) (served frame))
-  address-checked address e = rw (e, same) (go (ltb 254 n) (eqb address 255))
+      → paperPassed a c ≡ cond (ltb 254 n) (refused (number 12)) (cond (eqb address 255) (refused (number 10)) (served a))
+  address-checked address e = rw e (go (ltb 254 n) (eqb address 255))
     where
-      same : ltb 254 (min n 255) ≡ ltb 254 n
-      same = by (ltb 254 n) refl
-        where
-          by : (t : Bool) → ltb 254 n ≡ t → ltb 254 (min n 255) ≡ t
-          by true h = lt-ltb 254 (min n 255) (omega (arith, ltb-true 254 n h))
-          by false h = le-ltb 254 (min n 255) (omega (arith, ltb-false 254 n h))
-
-      go : (t u : Bool) → paperPassed frame (cond t (Refused OutOfRange) (cond u (Refused AddressBroadcast) Good))
-          ≡ cond t (refused (number 12)) (cond u (refused (number 10)) (served frame))
+      go : (t u : Bool) → paperPassed a (cond t (Refused OutOfRange) (cond u (Refused AddressBroadcast) Good))
+          ≡ cond t (refused (number 12)) (cond u (refused (number 10)) (served a))
       go true u = refl
       go false true = refl
       go false false = refl
+
+-- a request that passes its checks carries a byte where it sets an address
+pub address-byte : (address place n : ℕ) (c : Checked) → Says address (requestAt place n) c → c ≡ Good → place ≡ 17 → n < 256
+unfolding row
+address-byte address place n c is good e =
+    let p = passed-request address (requestAt place n) (sym is ∙ ap (paperPassed (address, requestAt place n)) good) .0 in
+    let range : ltb 254 n ≡ false = sym (ap (λ (k : ℕ). outOfRange (row (requestAt k n) .value)) e) ∙ p in
+    omega (arith, ltb-false 254 n range)
 
 -- a frame that stands at the start of a room that holds it, one that is copied there, and one that does not fit
 module _ (body room : List ℕ) (n : ℕ) (long : n ≡ length (frameOf body)) where
@@ -138,11 +139,6 @@ module _ (address : ℕ) (request : Request) (room frame : List ℕ) (c : Checke
       → (o, w) ≡ writeRequest address request room
   unfolding writeRequest
   write-laid good n e f = rw (← is, good, e) f
-
-  -- what was written passed its checks
-  pub written-passed : c ≡ Good → (outOfRange (row request .value) ≡ false) × (badFloat (row request .value) ≡ false)
-  unfolding frameToWrite
-  written-passed good = passed-value address request (five (row request)) (frameOf (bodyOf address (row request))) (sym is ∙ ap (paperPassed frame) good)
 
 -- bytes that were laid stand at the room's start, and fit
 pub emit-laid : (bytes room : List ℕ) (n : ℕ) → emit bytes room .0 ≡ served n
@@ -177,11 +173,10 @@ module _ (buffer : List ℕ) (start end : ℕ) where
           let is : end ≡ length buffer = omega arith in
           rw is (omega arith, take-length buffer ∙ sym (take-all start buffer past), drop-length buffer ∙ sym (drop-of-length-le buffer past))
 
-  pub appended : (address : ℕ) (request : Request) {r : Answered ℕ} {w : List ℕ} → Starts
-      → (r, w) ≡ writeRequest address request (take (length buffer - end) (drop end buffer))
-      → (r, take end buffer ++ (w ++ drop (length buffer - end) (drop end buffer))) ≡ appendRequest buffer start address request
-  unfolding appendRequest
-  appended address request {w = w} s e =
+  pub appended : (write : List ℕ → Answered ℕ × List ℕ) {r : Answered ℕ} {w : List ℕ} → Starts
+      → (r, w) ≡ write (take (length buffer - end) (drop end buffer))
+      → (r, take end buffer ++ (w ++ drop (length buffer - end) (drop end buffer))) ≡ from buffer start write
+  appended write {w = w} s e =
       let l = length-drop end buffer in
       let f = rw (take-all (length buffer - end) (drop end buffer) (omega arith), s .2) at e in
       rw (drop-of-length-le (drop end buffer) {i = length buffer - end} (omega arith), append-nil w, s .1)

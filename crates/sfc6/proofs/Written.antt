@@ -2,7 +2,7 @@
 use mathlib.Core.Path.{_≡_, refl, sym, ap, _∙_}
 use mathlib.Core.Logic.{⊎-elim}
 use mathlib.Core.List.{List, [], _∷_, map}
-use Prim.Native.Nat.{ℕ, _-_, _^_, min, _≤_, _<_}
+use Prim.Native.Nat.{ℕ, _-_, _^_, _≤_, _<_}
 use native.Mathlib.Omega.{arith}
 use lib.Dec.{T}
 use lib.ListN.{length, take, length-append}
@@ -11,7 +11,7 @@ use lib.Ieee.{Float, binary32, fits, toBits, ofBits}
 use lib.Ieee.Bits.{ofBits-toBits, toBits-lt}
 use borrow.Author.Tests.{le-ltb}
 use Rattle.refusal.specs.Refusals.{Answered, number, served}
-use Rattle.refusal.specs.Room.{emit}
+use Rattle.refusal.specs.Room.{emit, lay}
 use Rattle.refusal.proofs.Room.{take-overlay}
 use Rattle.shdlc.specs.declared.Kind.the-variants as kind
 use Rattle.shdlc.specs.Checksum.{checksumOf}
@@ -26,7 +26,7 @@ use Rattle.sfc6.specs.declared.Request.{Request}
 use Rattle.sfc6.specs.declared.Request.the-variants.{GetSetpoint, SetSetpoint, MeasuredValue, GetGain, SetGain, GetInitStep, SetInitStep, RawFlow, RawConductivity, Temperature, NumberOfCalibrations, Validity, FullScale, GetCalibration, SetCalibration, VolatileCalibration, GetAddress, SetAddress, GetBaud, SetBaud, ProductType}
 use Rattle.sfc6.specs.declared.Row.{Row}
 use Rattle.sfc6.specs.Commands.{row, table}
-use Rattle.sfc6.specs.Requests.{requestChecks, checkRequest, dataOf, bodyOf, frameToWrite, lay, writeRequest}
+use Rattle.sfc6.specs.Requests.{requestChecks, checkRequest, dataOf, bodyOf, frameToWrite, writeRequest}
 use Rattle.sfc6.specs.Reading.{startsWith, named, fitting, first, carried, typed, payloadOf, readRequest}
 use Rattle.sfc6.specs.ReadBack.{Fits}
 use Rattle.sfc6.proofs.Order.{never, first-refuses, then-more, passes-or-refuses}
@@ -39,9 +39,6 @@ long n h = big-of-big-endian 4 n h
 
 float : (x : Float) → T (fits binary32 x) → ofBits binary32 (big (bigEndian 4 (toBits binary32 x))) ≡ x
 float x h = ap (ofBits binary32) (long (toBits binary32 x) (toBits-lt binary32 x h)) ∙ ofBits-toBits binary32 x h
-
-address-byte : (a : ℕ) → a < 2 ^ 8 → min (big (bigEndian 1 a)) 255 ≡ a
-address-byte a h = rw (big-of-big-endian 1 a h) (omega arith)
 
 -- the data of a request are read as that request: the table, row by row
 pub typed-back : (request : Request) → Fits (row request .value) → typed (row request .command) (dataOf (row request)) ≡ served request
@@ -63,7 +60,7 @@ typed-back GetCalibration h = refl
 typed-back (SetCalibration n) h = ap (λ (m : ℕ). served (SetCalibration m)) (long n h)
 typed-back (VolatileCalibration n) h = ap (λ (m : ℕ). served (VolatileCalibration m)) (long n h)
 typed-back GetAddress h = refl
-typed-back (SetAddress a) h = ap (λ (m : ℕ). served (SetAddress m)) (address-byte a h)
+typed-back (SetAddress a) h = ap (λ (m : ℕ). served (SetAddress m)) (big-of-big-endian 1 a h)
 typed-back GetBaud h = refl
 typed-back (SetBaud n) h = ap (λ (m : ℕ). served (SetBaud m)) (long n h)
 typed-back ProductType h = refl

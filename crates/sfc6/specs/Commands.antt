@@ -1,5 +1,5 @@
 -- 01, Commands of the SFC6 family: the table, and the rules of the values that stand in it.
-use Prim.Native.Nat.{ℕ, _/_, _%_, min}
+use Prim.Native.Nat.{ℕ, _/_, _%_}
 use mathlib.Core.Bool.{Bool, true, false, not, _||_}
 use mathlib.Core.List.{List, [], _∷_}
 use lib.Dec.{ltb, eqb}
@@ -46,8 +46,7 @@ row GetBaud = withoutSub 0x91 Nothing reply.Baud
 row (SetBaud rate) = withoutSub 0x91 (Baud rate) reply.Nothing
 row ProductType = withSub 0xD0 0x00 Nothing reply.Text
 
--- the same requests, 0 to 20, each waiting for the number that it carries. A float is that of the number's bits; an address is one
--- byte, and 255 is no address
+-- the same requests, 0 to 20, each waiting for the number that it carries. A float is that of the number's bits
 abbrev pub table : List (ℕ → Request)
 table =
     (λ n. GetSetpoint)
@@ -67,13 +66,13 @@ table =
     ∷ SetCalibration
     ∷ VolatileCalibration
     ∷ (λ n. GetAddress)
-    ∷ (λ n. SetAddress (min n 255))
+    ∷ SetAddress
     ∷ (λ n. GetBaud)
     ∷ SetBaud
     ∷ (λ n. ProductType)
     ∷ []
 
--- the request of a number, 0 to 20, and of the number that it carries
+-- the request of a number, 0 to 20, and of the number that it carries; no other number names a request
 abbrev pub requestAt : ℕ → ℕ → Request
 requestAt place = getD table place (λ n. ProductType)
 

@@ -1,12 +1,12 @@
 -- A request: its own refusals, its bytes on the wire, and its writer. 01, Commands of the SFC6 family and Refusal numbers.
 use Prim.Native.Nat.{ℕ}
-use mathlib.Core.Bool.{Bool}
+use mathlib.Core.Bool.{Bool, cond}
 use mathlib.Core.List.{List, [], _∷_, _++_}
 use lib.Dec.{ltb}
 use lib.ListN.{length}
 use lib.Ieee.{binary32, toBits}
 use Rattle.refusal.specs.Refusals.{Numbered, number, Answered, served, refused, inOrder}
-use Rattle.refusal.specs.Room.{emit}
+use Rattle.refusal.specs.Room.{lay}
 use Rattle.shdlc.specs.Frame.{frameOf}
 use Rattle.payload.specs.Field.{bigEndian}
 use Rattle.sfc6.specs.declared.Request.{Request}
@@ -15,7 +15,7 @@ use Rattle.sfc6.specs.declared.Subcommand.the-variants as sub
 use Rattle.sfc6.specs.declared.Row.{Row}
 use Rattle.sfc6.specs.declared.Value.{Value}
 use Rattle.sfc6.specs.declared.Value.the-variants.{Nothing, Float, U32, Address, Baud}
-use Rattle.sfc6.specs.Commands.{row, outOfRange, badFloat, addressToAll}
+use Rattle.sfc6.specs.Commands.{row, requestAt, outOfRange, badFloat, addressToAll}
 
 -- "Order": a request's own refusals, 12, 13, 10, with which both writing a request and both reply jobs start
 abbrev pub requestChecks : ℕ → Request → List (Bool × Numbered)
@@ -27,6 +27,11 @@ requestChecks address request =
 
 unfoldable pub checkRequest : ℕ → Request → Answered (ℕ × Request)
 checkRequest address request = inOrder (requestChecks address request) (address, request)
+
+-- a request by its number in the table's order and the number that it carries: row 11, "not in the table", for a number over 20, then
+-- its own refusals
+unfoldable pub numbered : ℕ → ℕ → ℕ → Answered Request
+numbered address place n = inOrder ((ltb 20 place, number 11) ∷ requestChecks address (requestAt place n)) (requestAt place n)
 
 -- "Sub is the first data byte."
 abbrev pub subBytes : Subcommand → List ℕ
@@ -58,11 +63,10 @@ frameToWrite address request =
     inOrder (requestChecks address request ++ ((ltb 255 (length (dataOf (row request))), number 5) ∷ []))
     (frameOf (bodyOf address (row request)))
 
--- number 1 comes last: a frame goes to the start of the lent room, or does not fit
-abbrev pub lay : Answered (List ℕ) → List ℕ → Answered ℕ × List ℕ
-lay (served frame) room = emit frame room
-lay (refused n) room = (refused n, room)
-
 -- what the writer of a request answers, and what the lent room then holds
 unfoldable pub writeRequest : ℕ → Request → List ℕ → Answered ℕ × List ℕ
 writeRequest address request room = lay (frameToWrite address request) room
+
+-- the same by the request's number: 11 comes first
+unfoldable pub writeNumbered : ℕ → ℕ → ℕ → List ℕ → Answered ℕ × List ℕ
+writeNumbered address place n room = cond (ltb 20 place) (refused (number 11), room) (writeRequest address (requestAt place n) room)

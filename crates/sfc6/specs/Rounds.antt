@@ -2,16 +2,22 @@
 -- into the room left in the middle of the buffer. Each frame is one call. If it does not fit, or its starting place is past the
 -- buffer, 1 is given with nothing changed by that call; earlier frames stand."
 use Prim.Native.Nat.{ℕ, _+_}
-use mathlib.Core.List.{List, [], _∷_, _++_}
+use mathlib.Core.List.{List, [], _∷_, _++_, map}
 use lib.ListN.{take, drop}
 use Rattle.refusal.specs.Refusals.{Answered, served, refused}
 use Rattle.sfc6.specs.declared.Request.{Request}
-use Rattle.sfc6.specs.Requests.{writeRequest}
+use Rattle.sfc6.specs.Requests.{writeRequest, writeNumbered}
 
--- one call: a frame into the room from the starting place on; what stands before it stays. Past the buffer there is no room.
+-- one call: a writer into the room from the starting place on; what stands before it stays. Past the buffer there is no room.
+abbrev pub from : List ℕ → ℕ → (List ℕ → Answered ℕ × List ℕ) → Answered ℕ × List ℕ
+from buffer start write = (write (drop start buffer) .0, take start buffer ++ write (drop start buffer) .1)
+
 unfoldable pub appendRequest : List ℕ → ℕ → ℕ → Request → Answered ℕ × List ℕ
-appendRequest buffer start address request =
-    (writeRequest address request (drop start buffer) .0, take start buffer ++ writeRequest address request (drop start buffer) .1)
+appendRequest buffer start address request = from buffer start (writeRequest address request)
+
+-- the same by the request's number
+unfoldable pub appendNumbered : List ℕ → ℕ → ℕ → ℕ → ℕ → Answered ℕ × List ℕ
+appendNumbered buffer start address place n = from buffer start (writeNumbered address place n)
 
 -- What a polling round answers: how many frames stand, the place after them, and the refusal that ended it, if one did.
 abbrev pub Laid : Type 0
@@ -22,11 +28,18 @@ abbrev pub roundOn : (ℕ → ℕ → List ℕ → Laid × List ℕ) → ℕ →
 roundOn rest frames end (served size) buffer = rest (frames + 1) (end + size) buffer
 roundOn rest frames end (refused n) buffer = ((frames, end, refused n), buffer)
 
-unfoldable pub roundFrom : Request → List ℕ → ℕ → ℕ → List ℕ → Laid × List ℕ
-roundFrom request [] frames end buffer = ((frames, end, served tt), buffer)
-roundFrom request (node ∷ nodes) frames end buffer =
-    roundOn (roundFrom request nodes) frames end (appendRequest buffer end node request .0) (appendRequest buffer end node request .1)
+unfoldable pub roundFrom : List (ℕ × Request) → ℕ → ℕ → List ℕ → Laid × List ℕ
+roundFrom [] frames end buffer = ((frames, end, served tt), buffer)
+roundFrom (asked ∷ rest) frames end buffer =
+    roundOn (roundFrom rest) frames end (appendRequest buffer end (asked .0) (asked .1) .0) (appendRequest buffer end (asked .0) (asked .1) .1)
 
--- a polling round: one request to each of the nodes
+-- a polling round: each of the requests to its node
+unfoldable pub round : List ℕ → ℕ → List (ℕ × Request) → Laid × List ℕ
+round buffer start asked = roundFrom asked 0 start buffer
+
+-- one request to each of the nodes
+abbrev pub toEach : Request → List ℕ → List (ℕ × Request)
+toEach request nodes = map (λ node. (node, request)) nodes
+
 unfoldable pub pollRound : List ℕ → ℕ → List ℕ → Request → Laid × List ℕ
-pollRound buffer start nodes request = roundFrom request nodes 0 start buffer
+pollRound buffer start nodes request = round buffer start (toEach request nodes)

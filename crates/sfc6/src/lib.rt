@@ -15,8 +15,8 @@ ghost use lib.ListN.{length, take, drop};
 ghost use lib.Ieee.{binary32, toBits, ofBits};
 ghost use Rattle.sfc6.specs.declared.Request.{Request as Asked};
 ghost use Rattle.sfc6.specs.Commands.{withSub, withoutSub, row, table, requestAt, placeOf, valueOf, bauds, member, finite, outOfRange, badFloat, addressToAll};
-ghost use Rattle.sfc6.specs.Requests.{checkRequest, subBytes, valueBytes, dataOf, bodyWith, bodyOf, frameToWrite, writeRequest};
-ghost use Rattle.sfc6.specs.Rounds.{appendRequest, pollRound};
+ghost use Rattle.sfc6.specs.Requests.{checkRequest, numbered, subBytes, valueBytes, dataOf, bodyWith, bodyOf, frameToWrite, writeRequest, writeNumbered};
+ghost use Rattle.sfc6.specs.Rounds.{appendRequest, appendNumbered, pollRound};
 ghost use Rattle.sfc6.specs.Reading.{startsWith, named, fitting, first, carried, typed, readRequest};
 ghost use Rattle.refusal.specs.Room.{overlay};
 ghost use Rattle.shdlc.specs.Checksum.{sum};
@@ -99,8 +99,8 @@ enum Found {
     Nothing,
 }
 
-// What reading the data of a request answers.
-enum Typed {
+// A request, or why there is none.
+pub enum Typed {
     Known(Request),
     Refused(Refusal),
 }
@@ -185,13 +185,6 @@ fn without_sub(command: u8, value: Value, answer: Answer) -> Row
     }
 }
 
-// A place of the table: 20 for those past it.
-fn within(place: usize) -> usize
-    ensures { λ r. ⌜ r ≡ min place 20 ⌝ }
-{
-    if place < 20 { place } else { 20 }
-}
-
 // The table of commands.
 pub fn row_of(request: Request) -> Row
     ensures { λ r. ⌜ r ≡ row request ⌝ }
@@ -221,15 +214,9 @@ pub fn row_of(request: Request) -> Row
     }
 }
 
-// A number as an address: 255, which is out of range, where it is no byte.
-fn address_of(n: u32) -> u8
-    ensures { λ r. ⌜ r ≡ min n 255 ⌝ }
-{
-    if n < 255 { n as u8 } else { 255 }
-}
-
-// The request of its number in the table's order, 0 to 20, and of the number that it carries; 20 and above are the last.
-pub fn request_of(place: usize, n: u32) -> Request
+// The request at a place of the table, carrying a number; 20 and above are the last. The address to be set is a byte.
+fn request_at(place: usize, n: u32) -> Request
+    requires { ⌜ (place ≡ 17 → n < 256) ⌝ }
     ensures { λ r. ⌜ r ≡ requestAt place n ⌝ }
 {
     match place {
@@ -250,7 +237,7 @@ pub fn request_of(place: usize, n: u32) -> Request
         14 => Request::SetCalibration(n),
         15 => Request::VolatileCalibration(n),
         16 => Request::GetAddress,
-        17 => Request::SetAddress(address_of(n)),
+        17 => Request::SetAddress(low(n)),
         18 => Request::GetBaud,
         19 => Request::SetBaud(n),
         _ => Request::ProductType,
@@ -643,10 +630,9 @@ fn check_baud(rate: u32) -> Checked
     Checked::Refused(Refusal::OutOfRange)
 }
 
-// What the writer refuses of the request at a place, carrying a number, before the room is looked at: 12, 13, 10; 5 never, since no request
-// of the table has so many data bytes. It asks the number, and makes no request of it first.
+// The refusals of the request at a place, carrying a number: 12, 13, 10. It asks the number, and makes no request of it first.
 fn check_at(address: u8, place: usize, n: u32) -> Checked
-    ensures { λ r. ⌜ paperPassed (frameOf (bodyOf address (row (requestAt place n)))) r ≡ frameToWrite address (requestAt place n) ⌝ }
+    ensures { λ r. ⌜ paperPassed (address, requestAt place n) r ≡ checkRequest address (requestAt place n) ⌝ }
 {
     match place {
         0 => Checked::Good,
@@ -673,14 +659,31 @@ fn check_at(address: u8, place: usize, n: u32) -> Checked
     }
 }
 
-// The same of the request at a place of the table, carrying a number; 20 and above are the last.
-pub fn write_numbered(address: u8, place: usize, n: u32, out: &mut [u8]) -> Written
-    ensures { λ r. ⌜ (paperWritten r, now (out .exit)) ≡ writeRequest address (requestAt place n) (now (out .entry)) ⌝ }
+// The request of its number in the table's order, 0 to 20, and of the number that it carries: 11, then its own 12, 13, 10.
+pub fn request_of(address: u8, place: usize, n: u32) -> Typed
+    ensures { λ r. ⌜ paperTyped r ≡ numbered address place n ⌝ }
 {
+    if 20 < place {
+        return Typed::Refused(Refusal::UnknownCommand);
+    }
+    if let Checked::Refused(r) = check_at(address, place, n) {
+        return Typed::Refused(r);
+    }
+    Typed::Known(request_at(place, n))
+}
+
+// Writes the frame of a request by its number and the number that it carries: 11 comes first. 5 is not tested, since no request of the
+// table has so many data bytes.
+pub fn write_numbered(address: u8, place: usize, n: u32, out: &mut [u8]) -> Written
+    ensures { λ r. ⌜ (paperWritten r, now (out .exit)) ≡ writeNumbered address place n (now (out .entry)) ⌝ }
+{
+    if 20 < place {
+        return Written::Refused(Refusal::UnknownCommand);
+    }
     if let Checked::Refused(r) = check_at(address, place, n) {
         return Written::Refused(r);
     }
-    shdlc::written_of(lay_numbered(address, within(place), n, out))
+    shdlc::written_of(lay_numbered(address, place, n, out))
 }
 
 // Where the room from a place on starts: at the buffer's end for a place past it.
@@ -697,6 +700,14 @@ pub fn append_request(buffer: &mut [u8], start: usize, address: u8, request: Req
 {
     let end = room_from(start, buffer.len());
     write_request(address, request, &mut buffer[end..])
+}
+
+// The same by the request's number.
+pub fn append_numbered(buffer: &mut [u8], start: usize, address: u8, place: usize, n: u32) -> Written
+    ensures { λ r. ⌜ (paperWritten r, now (buffer .exit)) ≡ appendNumbered (now (buffer .entry)) start address place n ⌝ }
+{
+    let end = room_from(start, buffer.len());
+    write_numbered(address, place, n, &mut buffer[end..])
 }
 
 // Lays the frames of a polling round one after another from `start` on: the same request to each of the nodes. The first frame that is
@@ -766,7 +777,7 @@ fn find(command: u8, payload: &[u8], whole: bool) -> Found
 {
     let mut i: usize = 0;
     while i < 21 {
-        if suits(row_of(request_of(i, 0)), command, payload, whole) {
+        if suits(row_of(request_at(i, 0)), command, payload, whole) {
             return Found::At(i);
         }
         i += 1;
@@ -812,8 +823,8 @@ fn read_typed(command: u8, payload: &[u8]) -> Typed
         }
         return Typed::Refused(Refusal::UnknownCommand);
     };
-    let n = carried(row_of(request_of(place, 0)), payload);
-    Typed::Known(request_of(place, n))
+    let n = carried(row_of(request_at(place, 0)), payload);
+    Typed::Known(request_at(place, n))
 }
 
 // Reads a request from its unstuffed body, checksum included.

@@ -1,5 +1,7 @@
 -- `sfc6::append_request` meets its contract. Assumes nothing.
 use borrow.Author.Needs.{needs}
+use Rattle.sfc6.specs.Requests.{writeRequest}
+use Rattle.sfc6.specs.Rounds.{appendRequest}
 use Rattle.sfc6.proofs.Writing.{Starts, starts, appended}
 use Rattle.sfc6.proofs.append_request.Statement.{statement}
 use Rattle.sfc6.proofs.append_request.Tie as tie
@@ -9,6 +11,7 @@ from : (c : tie.After-room-from)
 from c = starts _ _ _ (c .room-from .ensures)
 
 pub append-request-spec : {M : Type 1} → statement M
+unfolding appendRequest
 append-request-spec =
     tie.close
     (tie.spec
@@ -18,4 +21,8 @@ append-request-spec =
     (λ c. search needs)
     (λ c κs. search needs)
     (λ c. search needs)
-    (λ c. let w = c .before .before in appended _ _ _ _ _ (from (w .before .before)) (w .write-request .ensures)))
+    (λ c.
+    let w = c .before .before in
+    let r = w .before .before in
+    let a = r .before .before .args in
+    appended (a .buffer .now) (a .start) (r .room-from .result) (writeRequest _ _) (from r) (w .write-request .ensures)))

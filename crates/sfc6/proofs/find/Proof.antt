@@ -20,13 +20,13 @@ returns : tie.Need-returns Inv-loop μ-loop
 returns c =
     let r = c .before .before in
     let l = r .before .before in
-    table-found _ _ (l .loop-test .taken) (r .before .request-of .ensures) (r .row-of .ensures) (c .before .suits .ensures) (c .if1 .taken) ∙ l .before .loop .inv .1
+    table-found _ _ (l .loop-test .taken) (r .before .request-at .ensures) (r .row-of .ensures) (c .before .suits .ensures) (c .if1 .taken) ∙ l .before .loop .inv .1
 
 loop-again : tie.Need-loop-again Inv-loop μ-loop
 loop-again c =
     let r = c .before .before in
     let l = r .before .before in
-    (omega arith, table-passed _ _ (l .loop-test .taken) (r .before .request-of .ensures) (r .row-of .ensures) (c .before .suits .ensures) (c .if1 .left) ∙ l .before .loop .inv .1)
+    (omega arith, table-passed _ _ (l .loop-test .taken) (r .before .request-at .ensures) (r .row-of .ensures) (c .before .suits .ensures) (c .if1 .left) ∙ l .before .loop .inv .1)
 
 pub find-spec : {M : Type 1} → statement M
 find-spec =

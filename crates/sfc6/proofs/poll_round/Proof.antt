@@ -4,7 +4,7 @@ use mathlib.Core.Path.{_≡_, refl, sym, _∙_}
 use Prim.Native.Nat.{_-_, _^_, _≤_, _<_}
 use native.Mathlib.Omega.{arith}
 use lib.ListN.{length, drop}
-use Rattle.sfc6.specs.Rounds.{roundFrom, pollRound}
+use Rattle.sfc6.specs.Rounds.{roundFrom, round, toEach, pollRound}
 use Rattle.sfc6.proofs.Rounds.{frame-fits, round-laid, round-stopped, round-over}
 use Rattle.sfc6.proofs.poll_round.Statement.{statement}
 use Rattle.sfc6.proofs.poll_round.Tie as tie
@@ -12,7 +12,7 @@ use Rattle.sfc6.proofs.poll_round.Tie as tie
 abbrev Inv-loop : tie.InvT-loop
 Inv-loop buffer₀ start nodes request end₀ i₀ buffer end i =
     (i ≤ length nodes)
-    × (roundFrom request (drop i nodes) i end buffer ≡ roundFrom request nodes 0 start buffer₀)
+    × (roundFrom (toEach request (drop i nodes)) i end buffer ≡ roundFrom (toEach request nodes) 0 start buffer₀)
     × (length buffer ≡ length buffer₀)
     × (end < 2 ^ 64)
 
@@ -32,14 +32,14 @@ loop-again c =
     (omega arith, round-laid _ _ _ _ _ _ (p .append-request .ensures) _ _ (p .before .before .before .loop-test .taken) refl _ (c .before .size .given .1) ∙ l .loop .inv .1, omega arith, add-end c .fits)
 
 returns : tie.Need-returns Inv-loop μ-loop
-unfolding pollRound
+unfolding pollRound round
 returns c =
     let p = c .before .before .before .before .before in
     let l = p .before .before .before .before in
     round-stopped _ _ _ _ _ _ (p .append-request .ensures) _ _ (p .before .before .before .loop-test .taken) refl _ (c .before .r .given .1) ∙ l .loop .inv .1
 
 returns-2 : tie.Need-returns-2 Inv-loop μ-loop
-unfolding pollRound
+unfolding pollRound round
 returns-2 c = round-over _ _ _ _ _ (c .loop-test .left) ∙ c .before .loop .inv .1
 
 pub poll-round-spec : {M : Type 1} → statement M

@@ -13,14 +13,14 @@ returns c =
 carried-requires : tie.Need-carried-requires
 carried-requires c κs =
     let p = c .before .before .before in
-    typed-whole _ _ (p .before .before .find .ensures) (p .place .given .1) (c .before .request-of .ensures) (c .row-of .ensures)
+    typed-whole _ _ (p .before .before .find .ensures) (p .place .given .1) (c .before .request-at .ensures) (c .row-of .ensures)
 
 returns-3 : tie.Need-returns-3
 returns-3 c =
     let r = c .before .before in
     let p = r .before .before .before in
-    typed-known _ _ (p .before .before .find .ensures) (p .place .given .1) (r .before .request-of .ensures) (r .row-of .ensures)
-    (c .before .carried .ensures) (c .request-of2 .ensures)
+    typed-known _ _ (p .before .before .find .ensures) (p .place .given .1) (r .before .request-at .ensures) (r .row-of .ensures)
+    (c .before .carried .ensures) (c .request-at2 .ensures)
 
 pub read-typed-spec : {M : Type 1} → statement M
 read-typed-spec =
