@@ -84,6 +84,12 @@ module _ (bytes room : List ℕ) where
     serves = λ n. (served-so n checks, serves-so n checks);
   }
 
+-- checks that answer alike do so after others
+pub in-order-append : {A : Type 0} (checks more less : List (Bool × Numbered)) (a : A) → inOrder more a ≡ inOrder less a
+    → inOrder (checks ++ more) a ≡ inOrder (checks ++ less) a
+in-order-append [] more less a e = e
+in-order-append (check ∷ checks) more less a e = rw (in-order-append checks more less a e)
+
 -- a check at the end that does not hold changes no answer
 pub in-order-last : {A : Type 0} (checks : List (Bool × Numbered)) (n : Numbered) (a : A) → inOrder (checks ++ ((false, n) ∷ [])) a ≡ inOrder checks a
 in-order-last [] n a = refl

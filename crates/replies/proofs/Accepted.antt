@@ -1,54 +1,70 @@
--- Which replies are written: those that no check refuses and that fit, and no others. Assumes nothing.
-use mathlib.Core.Path.{_≡_, refl, ap, _∙_}
-use mathlib.Core.Bool.{Bool, true, false, cond}
+-- When the writer of a reply refuses, and with which number. Assumes nothing.
+use mathlib.Core.Path.{_≡_, refl, sym, subst, _∙_}
+use mathlib.Core.Logic.{⊎-elim}
+use mathlib.Core.Bool.{Bool, true, false, cond, _||_}
 use mathlib.Core.List.{List, [], _∷_, _++_}
 use Prim.Native.Nat.{ℕ, _≤_}
-use lib.ListN.{length}
-use Rattle.refusal.specs.Refusals.{Numbered, Answered, served, refused, inOrder}
-use Rattle.refusal.specs.Room.{overlay, emit}
-use Rattle.refusal.proofs.Room.{emit-served}
-use Rattle.refusal.proofs.Order.{passed, refused-not-served}
-use Rattle.sfc6.specs.Commands.{row}
-use Rattle.sfc6.specs.Requests.{requestChecks, lay}
+use native.Mathlib.Omega.{arith}
+use lib.Dec.{ltb}
+use lib.ListN.{length, length-append}
+use borrow.Author.Tests.{le-ltb, ltb-false}
+use Rattle.refusal.specs.Refusals.{Numbered, Answered, number, refused, inOrder}
+use Rattle.refusal.specs.Room.{lay}
+use Rattle.refusal.specs.Order.{Decides}
+use Rattle.refusal.proofs.Deciding.{decides, in-order-append, not-among}
+use Rattle.payload.specs.Field.{bigEndian}
 use Rattle.sfc6.specs.declared.Request.{Request}
+use Rattle.sfc6.specs.Commands.{row, member}
+use Rattle.sfc6.specs.Requests.{requestChecks}
 use Rattle.replies.specs.declared.Reply.{Reply}
-use Rattle.replies.specs.Replies.{contentOf}
-use Rattle.replies.specs.Writer.{writeChecks, frameFor, frameToWrite, writeReply}
+use Rattle.replies.specs.declared.Content.{Content}
+use Rattle.replies.specs.declared.Content.the-variants.{Nothing, Float, U16, U32, Validity, Address, Baud, Text, Error}
+use Rattle.replies.specs.Replies.{contentOf, outOfRange, badFloat}
+use Rattle.replies.specs.Writer.{badText, dataOf, replyChecks, frameFor, frameToWrite, writeReply}
+use Rattle.replies.proofs.Carried.{or-false}
 
--- no check of a list holds
-abbrev pub Passed : List (Bool × Numbered) → Type 0
-Passed [] = Unit {0}
-Passed (c ∷ cs) = (c .0 ≡ false) × Passed cs
+-- data of which no text is refused are at most 255 bytes
+data-short : (c : Content) (words : List ℕ) → badText c words ≡ false → ltb 255 (length (dataOf c words)) ≡ false
+unfolding bigEndian
+data-short Nothing words h = refl
+data-short (Float x) words h = refl
+data-short (U16 n) words h = refl
+data-short (U32 n) words h = refl
+data-short (Validity v) words h = refl
+data-short (Address a) words h = refl
+data-short (Baud rate) words h = refl
+data-short Text words h =
+    let l : length words ≤ 254 = ltb-false _ _ (or-false (ltb 254 (length words)) (member 0 words) h .0) in
+    le-ltb 255 (length (words ++ (0 ∷ []))) (omega (arith, length-append words (0 ∷ [])))
+data-short (Error code) words h = refl
 
-pub in-order-served : {A : Type 0} (checks : List (Bool × Numbered)) (a : A) → Passed checks → inOrder checks a ≡ served a
-in-order-served [] a p = refl
-in-order-served (c ∷ cs) a p = rw (p .0) (in-order-served cs a (p .1))
+module _ (address : ℕ) (request : Request) (reply : Reply) (words : List ℕ) (bit7 : Bool) where
+  abbrev checks : List (Bool × Numbered)
+  checks = requestChecks address request ++ replyChecks address request reply words
 
-pub served-passed : {A : Type 0} (checks : List (Bool × Numbered)) (a b : A) → inOrder checks a ≡ served b → Passed checks
-served-passed [] a b e = tt
-served-passed (c ∷ cs) a b e =
-    let s = passed (c .0) (c .1) (inOrder cs a) b e in
-    (s .0, served-passed cs a b (s .1))
-
-module _ (address : ℕ) (request : Request) (reply : Reply) (words : List ℕ) (bit7 : Bool) (room : List ℕ) where
-  abbrev pub frame : List ℕ
+  abbrev frame : List ℕ
   frame = frameFor address (row request .command) (contentOf reply) words bit7
 
-  pub accepts : Passed (requestChecks address request ++ writeChecks address request reply words) → length frame ≤ length room
-      → writeReply address request reply words bit7 room ≡ (served (length frame), overlay room 0 frame)
-  unfolding writeReply frameToWrite
-  accepts p h =
-      ap (λ (x : Answered (List ℕ)). lay x room)
-      (in-order-served (requestChecks address request ++ writeChecks address request reply words) frame p)
-      ∙ emit-served frame room h
+  -- 5 is never given: a text that is too long was refused with 12
+  without-5 : frameToWrite address request reply words bit7 ≡ inOrder checks frame
+  unfolding frameToWrite
+  without-5 =
+      in-order-append (requestChecks address request) (replyChecks address request reply words ++ ((ltb 255 (length (dataOf (contentOf reply) words)), number 5) ∷ []))
+      (replyChecks address request reply words) frame
+      (go (outOfRange (contentOf reply)) (badText (contentOf reply) words) (data-short (contentOf reply) words))
+    where
+      go : (x t : Bool) → (t ≡ false → ltb 255 (length (dataOf (contentOf reply) words)) ≡ false)
+          → inOrder ((_, number 14) ∷ (x || t, number 12) ∷ (badFloat (contentOf reply), number 13) ∷ (ltb 255 (length (dataOf (contentOf reply) words)), number 5) ∷ []) frame
+          ≡ inOrder ((_, number 14) ∷ (x || t, number 12) ∷ (badFloat (contentOf reply), number 13) ∷ []) frame
+      go true t h = refl
+      go false true h = refl
+      go false false h = rw (h refl)
 
-  laid-passed : (x : Answered (List ℕ)) (n : ℕ) → lay x room .0 ≡ served n → (f : List ℕ) × (x ≡ served f)
-  laid-passed (served f) n e = (f, refl)
-  laid-passed (refused m) n e = absurd (refused-not-served e)
+  pub reply-decides : (room : List ℕ) → Decides checks frame room (writeReply address request reply words bit7 room .0)
+  unfolding writeReply
+  reply-decides room =
+      subst (λ (a : Answered (List ℕ)). Decides checks frame room (lay a room .0)) (sym without-5) (decides frame room checks)
 
-  pub no-others : (n : ℕ) → writeReply address request reply words bit7 room .0 ≡ served n
-      → Passed (requestChecks address request ++ writeChecks address request reply words)
-  unfolding writeReply frameToWrite
-  no-others n e =
-      let s = laid-passed (inOrder (requestChecks address request ++ writeChecks address request reply words) frame) n e in
-      served-passed (requestChecks address request ++ writeChecks address request reply words) frame (s .0) (s .1)
+  pub never-5 : (room : List ℕ) → writeReply address request reply words bit7 room .0 ≡ refused (number 5) → ⊥
+  never-5 room h =
+      not-among 5 checks frame room _ (reply-decides room) (refl, (refl, (refl, (refl, (refl, (refl, tt)))))) refl h

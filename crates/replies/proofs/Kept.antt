@@ -3,7 +3,7 @@ use mathlib.Core.Path.{_≡_, refl, sym, ap, subst, _∙_}
 use mathlib.Core.Bool.{Bool, true, false, cond, not, _||_}
 use mathlib.Core.List.{List, [], _∷_, _++_}
 use mathlib.Core.Option.{Option, none, some}
-use Prim.Native.Nat.{ℕ, _-_, _^_, min, _<_}
+use Prim.Native.Nat.{ℕ, _^_, _<_}
 use native.Mathlib.Omega.{arith}
 use lib.Dec.{T, eqb, ltb}
 use lib.ListN.{length}
@@ -109,9 +109,6 @@ number-back q r words k e width f g h i =
       got = ap (λ (s : Option ℕ). served (gotBy s q d)) form ∙ ap (λ (x : Reply). served (value x)) same ∙ sym i;
     }
 
-capped-back : (count n : ℕ) → n < 256 ^ count → min (big (bigEndian count n)) (256 ^ count - 1) ≡ n
-capped-back count n h = rw (big-of-big-endian count n h) (omega arith)
-
 pub back : (q : Request) (r : Reply) (words : List ℕ) → Fits (contentOf r) → badFloat (contentOf r) ≡ false → badText (contentOf r) words ≡ false
     → (kindOf r ≡ 15 → ⊥) → kindOf (replyTo q 0) ≡ kindOf r → Back q r words
 unfolding big bigEndian
@@ -120,14 +117,14 @@ back q (Setpoint x) words h f t n e = number-back q (Setpoint x) words 1 e 4 ref
 back q (MeasuredValue x) words h f t n e = number-back q (MeasuredValue x) words 2 e 4 refl refl (ap MeasuredValue (reading-back x h f)) refl
 back q (Gain x) words h f t n e = number-back q (Gain x) words 3 e 4 refl refl (ap Gain (reading-back x h f)) refl
 back q (InitStep x) words h f t n e = number-back q (InitStep x) words 4 e 4 refl refl (ap InitStep (reading-back x h f)) refl
-back q (RawFlow n) words h f t m e = number-back q (RawFlow n) words 5 e 2 refl refl (ap RawFlow (capped-back 2 n h)) refl
-back q (RawConductivity n) words h f t m e = number-back q (RawConductivity n) words 6 e 2 refl refl (ap RawConductivity (capped-back 2 n h)) refl
+back q (RawFlow n) words h f t m e = number-back q (RawFlow n) words 5 e 2 refl refl (ap RawFlow (big-of-big-endian 2 n h)) refl
+back q (RawConductivity n) words h f t m e = number-back q (RawConductivity n) words 6 e 2 refl refl (ap RawConductivity (big-of-big-endian 2 n h)) refl
 back q (Temperature x) words h f t n e = number-back q (Temperature x) words 7 e 4 refl refl (ap Temperature (reading-back x h f)) refl
 back q (NumberOfCalibrations n) words h f t m e = number-back q (NumberOfCalibrations n) words 8 e 4 refl refl (ap NumberOfCalibrations (big-of-big-endian 4 n h)) refl
-back q (Validity n) words h f t m e = number-back q (Validity n) words 9 e 1 refl refl (ap Validity (capped-back 1 n h)) refl
+back q (Validity n) words h f t m e = number-back q (Validity n) words 9 e 1 refl refl (ap Validity (big-of-big-endian 1 n h)) refl
 back q (FullScale x) words h f t n e = number-back q (FullScale x) words 10 e 4 refl refl (ap FullScale (reading-back x h f)) refl
 back q (Calibration n) words h f t m e = number-back q (Calibration n) words 11 e 4 refl refl (ap Calibration (big-of-big-endian 4 n h)) refl
-back q (Address n) words h f t m e = number-back q (Address n) words 12 e 1 refl refl (ap Address (capped-back 1 n h)) refl
+back q (Address n) words h f t m e = number-back q (Address n) words 12 e 1 refl refl (ap Address (big-of-big-endian 1 n h)) refl
 back q (Baud n) words h f t m e = number-back q (Baud n) words 13 e 4 refl refl (ap Baud (big-of-big-endian 4 n h)) refl
 back q ProductType words h f t n e =
     let d = words ++ (0 ∷ []) in
@@ -168,22 +165,16 @@ again answer.Float payload words width b s e f =
     record { same = bytes-again payload 4 _ b l (pattern-back (big payload) (small payload 4 b l) f); free = refl; no-code = refl }
 again answer.U16 payload words width b s e f =
     let w : 2 ≡ width = cc in
-    let l : length payload ≡ 2 = omega arith in
-    let m : big payload < 65536 = small payload 2 b l in
-    record { same = bytes-again payload 2 _ b l (omega arith); free = refl; no-code = refl }
+    record { same = bytes-again payload 2 _ b (omega arith) refl; free = refl; no-code = refl }
 again answer.U32 payload words width b s e f =
     let w : 4 ≡ width = cc in
     record { same = bytes-again payload 4 _ b (omega arith) refl; free = refl; no-code = refl }
 again answer.Validity payload words width b s e f =
     let w : 1 ≡ width = cc in
-    let l : length payload ≡ 1 = omega arith in
-    let m : big payload < 256 = small payload 1 b l in
-    record { same = bytes-again payload 1 _ b l (omega arith); free = refl; no-code = refl }
+    record { same = bytes-again payload 1 _ b (omega arith) refl; free = refl; no-code = refl }
 again answer.Address payload words width b s e f =
     let w : 1 ≡ width = cc in
-    let l : length payload ≡ 1 = omega arith in
-    let m : big payload < 256 = small payload 1 b l in
-    record { same = bytes-again payload 1 _ b l (omega arith); free = refl; no-code = refl }
+    record { same = bytes-again payload 1 _ b (omega arith) refl; free = refl; no-code = refl }
 again answer.Baud payload words width b s e f =
     let w : 4 ≡ width = cc in
     record { same = bytes-again payload 4 _ b (omega arith) refl; free = refl; no-code = refl }

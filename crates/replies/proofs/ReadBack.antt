@@ -1,18 +1,20 @@
 -- Demand 2 for replies: the claim of specs/ReadBack.antt. Assumes nothing.
 use Rattle.replies.specs.ReadBack.{ReadBack}
+use Rattle.replies.proofs.Accepted.{reply-decides, never-5}
 use Rattle.replies.proofs.Written.{written-read}
-use Rattle.replies.proofs.Rewritten.{value-again, error-again, text-placed, text-again, text-too-long, whole-text-again, not-5}
+use Rattle.replies.proofs.Rewritten.{value-from-wire, error-from-wire, text-placed, text-again, text-too-long, text-from-wire}
 
 pub read-back : ReadBack
 read-back = record {
   written-then-read = written-read;
-  read-then-written = value-again;
-  error-then-written = error-again;
+  read-then-written = value-from-wire;
+  error-then-written = error-from-wire;
   text-read = text-placed;
   text-then-written = λ address request body place n bit7 h room. (
     text-again address request body place n bit7 h room,
     text-too-long address request body place n bit7 h room,
   );
-  whole-text-then-written = λ address request body bytes place n bit7 h e room. whole-text-again address request body place n bit7 h bytes e room;
-  never-5 = not-5;
+  whole-text-then-written = text-from-wire;
+  decides = reply-decides;
+  never-5 = never-5;
 }

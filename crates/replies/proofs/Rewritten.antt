@@ -11,18 +11,21 @@ use lib.ListN.{length, getD, take, drop, length-append, length-take, length-drop
 use lib.Seq.{take-take}
 use borrow.Author.Tests.{lt-ltb, le-ltb, leb-true, leb-false, eqb-true, ltb-false, not-false}
 use Rattle.refusal.specs.Refusals.{Numbered, number, _carrying_, numberIn, Answered, served, refused, inOrder}
-use Rattle.refusal.specs.Room.{overlay, emit}
+use Rattle.refusal.specs.Room.{emit, lay}
 use Rattle.refusal.proofs.Order.{passed}
 use Rattle.shdlc.specs.declared.Kind.the-variants as kind
 use Rattle.shdlc.specs.Body.{bodyChecks, checkBody}
 use Rattle.shdlc.specs.Frame.{withChecksum, frameOf}
+use Rattle.shdlc.specs.Stuffing.{stuff}
+use Rattle.shdlc.specs.ReadBack.{closed}
 use Rattle.shdlc.proofs.Body.{Passes, passes, checked-body}
 use Rattle.payload.specs.Field.{big, bigEndian, Bytes}
 use Rattle.sfc6.specs.declared.Request.{Request}
 use Rattle.sfc6.specs.declared.Row.{Row}
 use Rattle.sfc6.specs.Commands.{row, member}
-use Rattle.sfc6.specs.Requests.{requestChecks, checkRequest, lay}
-use Rattle.sfc6.proofs.Rewritten.{bytes-drop, bytes-take}
+use Rattle.sfc6.specs.Requests.{requestChecks, checkRequest}
+use Rattle.sfc6.specs.ReadBack.{Received}
+use Rattle.sfc6.proofs.Rewritten.{bytes-drop, bytes-take, received-body}
 use Rattle.sfc6.proofs.Order.{never, first-refuses, then-more, passes-or-refuses}
 use Rattle.replies.specs.declared.Reply.{Reply}
 use Rattle.replies.specs.declared.Reply.the-variants.{ProductType, DeviceError}
@@ -31,7 +34,6 @@ use Rattle.replies.specs.declared.Content.the-variants.{Nothing, Float, 
 use Rattle.replies.specs.Replies.{replyTo, kindOf, suits, contentOf, outOfRange, badFloat}
 use Rattle.replies.specs.Writer.{badText, dataOf, codeOf, stateOf, bodyOf, frameFor, writeChecks, frameToWrite, writeReply}
 use Rattle.replies.specs.Reader.{codeIn, bit7In, lengthIn, dataIn, sizeOf, isSize, foreign, textIn, Got, value, text, gotBy, valueChecks, readChecks, answerTo, reported, readReply}
-use Rattle.replies.specs.ReadBack.{wire}
 use Rattle.replies.proofs.Carried.{or-false}
 use Rattle.replies.proofs.Taking.{same-kind}
 use Rattle.replies.proofs.Text.{text-clean, text-first, text-no-longer}
@@ -160,7 +162,7 @@ module _ (address : ℕ) (q : Request) (body : List ℕ) (bit7 : Bool) {answer :
 
   -- a reply with the same data and the same state is written as the same bytes
   same-bytes : Bytes body → (r : Reply) (words room : List ℕ) → Accepted address q r words → dataOf (contentOf r) words ≡ dataIn body
-      → codeOf (contentOf r) ≡ codeIn body → writeReply address q r words bit7 room ≡ emit (wire body) room
+      → codeOf (contentOf r) ≡ codeIn body → writeReply address q r words bit7 room ≡ emit (closed (stuff body)) room
   unfolding writeReply frameFor frameOf bodyOf
   same-bytes b r words room a d c =
       let own = belongs address (row q) body (p .own) in
@@ -169,7 +171,7 @@ module _ (address : ℕ) (q : Request) (body : List ℕ) (bit7 : Bool) {answer :
       let whole : bodyOf address (row q .command) (stateOf (contentOf r) bit7) (dataOf (contentOf r) words) ≡ take (length body - 1) body =
       rw (state, size, d, ← own .1, ← own .2) (front body (passed-body .least)) in
       ap (λ (x : Answered (List ℕ)). lay x room) (to-write address q r words bit7 a)
-      ∙ ap (λ (x : List ℕ). emit (wire x) room) (ap withChecksum whole ∙ sym (checked-body kind.Reply body (p .checked)))
+      ∙ ap (λ (x : List ℕ). emit (closed (stuff x)) room) (ap withChecksum whole ∙ sym (checked-body kind.Reply body (p .checked)))
 
 -- where the reply is served, the code is 0 and the length is the table's
 settled : (x y z : Bool) → (not x && y) ≡ false → cond x (not z) (not y) ≡ false → (x ≡ true) × (z ≡ true)
@@ -215,9 +217,9 @@ good address q body g bit7 p =
     record { no-code = z .0; size = z .1; range = l .0; float = m .0; it = cc }
 
 -- ---- a value
-pub value-again : (address : ℕ) (q : Request) (body : List ℕ) → Bytes body → (r : Reply) (bit7 : Bool)
+value-again : (address : ℕ) (q : Request) (body : List ℕ) → Bytes body → (r : Reply) (bit7 : Bool)
     → readReply address q body ≡ (served (value r), some bit7) → (words room : List ℕ)
-    → writeReply address q r words bit7 room ≡ emit (wire body) room
+    → writeReply address q r words bit7 room ≡ emit (closed (stuff body)) room
 value-again address q body b r bit7 h words room =
     let p = parts address q body (served (value r)) bit7 h in
     let g = good address q body (value r) bit7 p in
@@ -248,9 +250,9 @@ error-said true y code n checks g w h = wrong (not-number 15 checks g w h)
 error-said false true code n checks g w h = (refl, refl, cc)
 error-said false false code n checks g w h = wrong (not-number 15 checks g w h)
 
-pub error-again : (address : ℕ) (q : Request) (body : List ℕ) → Bytes body → (code : ℕ) (bit7 : Bool)
+error-again : (address : ℕ) (q : Request) (body : List ℕ) → Bytes body → (code : ℕ) (bit7 : Bool)
     → readReply address q body ≡ (refused (15 carrying code), some bit7) → (words room : List ℕ)
-    → writeReply address q (DeviceError code) words bit7 room ≡ emit (wire body) room
+    → writeReply address q (DeviceError code) words bit7 room ≡ emit (closed (stuff body)) room
 error-again address q body b code bit7 h words room =
     let p = parts address q body (refused (15 carrying code)) bit7 h in
     let s = error-said (eqb (codeIn body) 0) (eqb (lengthIn body) 0) code (codeIn body) (valueChecks (replyTo q (big (dataIn body)))) (got q body)
@@ -325,59 +327,30 @@ module _ (address : ℕ) (q : Request) (body : List ℕ) (place n : ℕ) (bit7 :
       ap (λ (x : Answered (List ℕ)). lay x room)
       (then-more {A = ℕ × Request} (address, q) f (writeChecks address q ProductType words) (requestChecks address q) (p .request-good) ∙ stopped)
 
-  pub whole-text-again : Bytes body → dataIn body ≡ textIn (dataIn body) ++ (0 ∷ []) → (room : List ℕ)
-      → writeReply address q ProductType words bit7 room ≡ emit (wire body) room
+  whole-text-again : Bytes body → dataIn body ≡ textIn (dataIn body) ++ (0 ∷ []) → (room : List ℕ)
+      → writeReply address q ProductType words bit7 room ≡ emit (closed (stuff body)) room
   whole-text-again b e room =
       let l : n ≤ 254 =
       omega (arith, ap length e, length-append (textIn (dataIn body)) (0 ∷ []), payload-short address q body bit7 p, found .2) in
       let d : words ++ (0 ∷ []) ≡ dataIn body = ap (λ (x : List ℕ). x ++ (0 ∷ [])) text-placed ∙ sym e in
       same-bytes address q body bit7 p b ProductType words room (text-accepted l) d (sym (good address q body (text place n) bit7 p .no-code))
 
--- ---- 5 never comes
-data-short : (c : Content) (words : List ℕ) → badText c words ≡ false → ltb 255 (length (dataOf c words)) ≡ false
-unfolding bigEndian
-data-short Nothing words h = refl
-data-short (Float x) words h = refl
-data-short (U16 n) words h = refl
-data-short (U32 n) words h = refl
-data-short (Validity v) words h = refl
-data-short (Address a) words h = refl
-data-short (Baud rate) words h = refl
-data-short Text words h =
-    let l : length words ≤ 254 = ltb-false _ _ (or-false (ltb 254 (length words)) (member 0 words) h .0) in
-    le-ltb 255 (length (words ++ (0 ∷ []))) (omega (arith, length-append words (0 ∷ [])))
-data-short (Error code) words h = refl
+-- ---- the same from the wire on
+module _ (stretch body : List ℕ) (r : Received kind.Reply stretch body) where
+  wire-again : (room : List ℕ) {written : Answered ℕ × List ℕ} → (Bytes body → written ≡ emit (closed (stuff body)) room) → written ≡ emit (closed stretch) room
+  wire-again room e =
+      let is = received-body kind.Reply stretch body r in
+      e (is .1) ∙ ap (λ (s : List ℕ). emit (closed s) room) (sym (is .0))
 
-not-five : {A : Type 0} {n : Numbered} → eqb (numberIn n) 5 ≡ false → _≡_ {A = Answered A} (refused n) (refused (number 5)) → ⊥
-not-five {n = n} e h = let f : n ≡ number 5 = cc in wrong (sym (ap (λ (m : Numbered). eqb (numberIn m) 5) f) ∙ e)
+  pub value-from-wire : (address : ℕ) (q : Request) (reply : Reply) (bit7 : Bool) → readReply address q body ≡ (served (value reply), some bit7)
+      → (words room : List ℕ) → writeReply address q reply words bit7 room ≡ emit (closed stretch) room
+  value-from-wire address q reply bit7 h words room = wire-again room (λ b. value-again address q body b reply bit7 h words room)
 
-checks-not-5 : (a r t f d : Bool) (bytes : List ℕ) → (t ≡ false → d ≡ false)
-    → inOrder ((a, number 14) ∷ (r || t, number 12) ∷ (f, number 13) ∷ (d, number 5) ∷ []) bytes ≡ refused (number 5) → ⊥
-checks-not-5 true r t f d bytes k h = not-five refl h
-checks-not-5 false true t f d bytes k h = not-five refl h
-checks-not-5 false false true f d bytes k h = not-five refl h
-checks-not-5 false false false true d bytes k h = not-five refl h
-checks-not-5 false false false false true bytes k h = wrong (k refl)
-checks-not-5 false false false false false bytes k h = never h
+  pub error-from-wire : (address : ℕ) (q : Request) (code : ℕ) (bit7 : Bool) → readReply address q body ≡ (refused (15 carrying code), some bit7)
+      → (words room : List ℕ) → writeReply address q (DeviceError code) words bit7 room ≡ emit (closed stretch) room
+  error-from-wire address q code bit7 h words room = wire-again room (λ b. error-again address q body b code bit7 h words room)
 
-lay-not-5 : (a : Answered (List ℕ)) (room : List ℕ) → lay a room .0 ≡ refused (number 5) → a ≡ refused (number 5)
-unfolding emit
-lay-not-5 (refused n) room h = let f : n ≡ number 5 = cc in ap refused f
-lay-not-5 (served f) room h = absurd (go (ltb (length room) (length f)) h)
-  where
-    go : (t : Bool) → cond {A = Answered ℕ × List ℕ} t (refused (number 1), room) (served (length f), overlay room 0 f) .0 ≡ refused (number 5) → ⊥
-    go true h = not-five refl h
-    go false h = never h
-
-pub not-5 : (address : ℕ) (q : Request) (r : Reply) (words : List ℕ) (bit7 : Bool) (room : List ℕ)
-    → writeReply address q r words bit7 room .0 ≡ refused (number 5) → ⊥
-unfolding writeReply frameToWrite
-not-5 address q r words bit7 room h =
-    let f = frame address q r words bit7 in
-    let e = lay-not-5 (frameToWrite address q r words bit7) room h in
-    ⊎-elim
-    (λ g. checks-not-5 (eqb address 255 || not (suits q r)) (outOfRange (contentOf r)) (badText (contentOf r) words) (badFloat (contentOf r)) _ f (data-short (contentOf r) words)
-    (sym (then-more {A = ℕ × Request} (address, q) f (writeChecks address q r words) (requestChecks address q) g) ∙ e))
-    (λ g. not-five (not-number {A = ℕ × Request} 5 (requestChecks address q) (address, q) (refl, (refl, (refl, tt))) (g .1))
-    (sym (first-refuses {A = ℕ × Request} (address, q) f (writeChecks address q r words) (requestChecks address q) (g .1)) ∙ e))
-    (passes-or-refuses {A = ℕ × Request} (requestChecks address q) (address, q))
+  pub text-from-wire : (address : ℕ) (q : Request) (place n : ℕ) (bit7 : Bool) → readReply address q body ≡ (served (text place n), some bit7)
+      → dataIn body ≡ textIn (dataIn body) ++ (0 ∷ []) → (room : List ℕ)
+      → writeReply address q ProductType (take n (drop place body)) bit7 room ≡ emit (closed stretch) room
+  text-from-wire address q place n bit7 h e room = wire-again room (λ b. whole-text-again address q body place n bit7 h b e room)

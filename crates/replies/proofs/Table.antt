@@ -2,7 +2,7 @@
 use mathlib.Core.Path.{_≡_, refl}
 use mathlib.Core.List.{[], _∷_}
 use mathlib.Core.Option.{none, some}
-use Prim.Native.Nat.{ℕ, min}
+use Prim.Native.Nat.{ℕ}
 use native.Mathlib.Omega.{arith}
 use lib.ListN.{getD}
 use Rattle.sfc6.specs.declared.Request.{Request}
@@ -21,10 +21,10 @@ use Rattle.replies.specs.Reader.{sizeOf}
 unfoldable pub contentFrom : Answer → ℕ → Content
 contentFrom answer.Nothing n = content.Nothing
 contentFrom answer.Float n = content.Float (readingOf n)
-contentFrom answer.U16 n = content.U16 (min n 65535)
+contentFrom answer.U16 n = content.U16 n
 contentFrom answer.U32 n = content.U32 n
-contentFrom answer.Validity n = content.Validity (min n 255)
-contentFrom answer.Address n = content.Address (min n 255)
+contentFrom answer.Validity n = content.Validity n
+contentFrom answer.Address n = content.Address n
 contentFrom answer.Baud n = content.Baud n
 contentFrom answer.Text n = content.Text
 
@@ -37,14 +37,14 @@ replyAt k =
     ∷ (λ n. MeasuredValue (readingOf n))
     ∷ (λ n. Gain (readingOf n))
     ∷ (λ n. InitStep (readingOf n))
-    ∷ (λ n. RawFlow (min n 65535))
-    ∷ (λ n. RawConductivity (min n 65535))
+    ∷ RawFlow
+    ∷ RawConductivity
     ∷ (λ n. Temperature (readingOf n))
     ∷ NumberOfCalibrations
-    ∷ (λ n. Validity (min n 255))
+    ∷ Validity
     ∷ (λ n. FullScale (readingOf n))
     ∷ Calibration
-    ∷ (λ n. Address (min n 255))
+    ∷ Address
     ∷ Baud
     ∷ [])
     k (λ n. ProductType)

@@ -16,7 +16,7 @@ use Rattle.shdlc.specs.Paper.{writtenOf}
 use Rattle.sfc6.specs.declared.Request.{Request}
 use Rattle.sfc6.specs.declared.Row.{Row}
 use Rattle.sfc6.specs.Commands.{row}
-use Rattle.sfc6.specs.Requests.{requestChecks, checkRequest, lay}
+use Rattle.sfc6.specs.Requests.{requestChecks, checkRequest}
 use Rattle.sfc6.specs.Paper.{paperPassed}
 use Rattle.sfc6.proofs.Order.{never, first-refuses, then-more}
 use Rattle.replies.specs.declared.Reply.{Reply}

@@ -11,7 +11,7 @@ use lib.ListN.{length, getD, take, drop, length-append}
 use lib.Seq.{take-at, take-append-seam}
 use borrow.Author.Tests.{eq-eqb, ne-eqb, le-ltb, le-leb, lt-leb, ltb-false, eqb-true, eqb-false, not-false}
 use Rattle.refusal.specs.Refusals.{Numbered, number, _carrying_, Answered, served, refused, inOrder}
-use Rattle.refusal.specs.Room.{overlay, emit}
+use Rattle.refusal.specs.Room.{overlay, emit, lay}
 use Rattle.refusal.proofs.Order.{passed}
 use Rattle.shdlc.specs.declared.Kind.the-variants as kind
 use Rattle.shdlc.specs.declared.Checked.the-variants as checked
@@ -25,7 +25,7 @@ use Rattle.payload.specs.Field.{big}
 use Rattle.sfc6.specs.declared.Request.{Request}
 use Rattle.sfc6.specs.declared.Row.{Row}
 use Rattle.sfc6.specs.Commands.{row}
-use Rattle.sfc6.specs.Requests.{requestChecks, checkRequest, lay}
+use Rattle.sfc6.specs.Requests.{requestChecks, checkRequest}
 use Rattle.sfc6.proofs.Order.{never, first-refuses, then-more, passes-or-refuses, serves-it}
 use Rattle.refusal.proofs.Room.{take-overlay}
 use Rattle.replies.specs.declared.Reply.{Reply}

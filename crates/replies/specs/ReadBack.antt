@@ -10,11 +10,13 @@ use lib.ListN.{length, take, drop}
 use lib.Ieee.{binary32, fits}
 use Rattle.refusal.specs.Refusals.{number, _carrying_, Answered, served, refused}
 use Rattle.refusal.specs.Room.{emit}
+use Rattle.refusal.specs.Order.{Decides}
 use Rattle.shdlc.specs.declared.Kind.the-variants as kind
-use Rattle.shdlc.specs.Stuffing.{stuff}
+use Rattle.shdlc.specs.ReadBack.{closed}
 use Rattle.shdlc.specs.Stream.{byte, items}
-use Rattle.payload.specs.Field.{Bytes}
 use Rattle.sfc6.specs.Commands.{row}
+use Rattle.sfc6.specs.Requests.{requestChecks}
+use Rattle.sfc6.specs.ReadBack.{Received}
 use Rattle.sfc6.specs.declared.Request.{Request}
 use Rattle.replies.specs.declared.Reading.{Reading}
 use Rattle.replies.specs.declared.Reading.the-variants.{Finite, Invalid, PlusInfinity, MinusInfinity}
@@ -23,7 +25,7 @@ use Rattle.replies.specs.declared.Reply.the-variants.{ProductType, Devic
 use Rattle.replies.specs.declared.Content.{Content}
 use Rattle.replies.specs.declared.Content.the-variants.{Nothing, Float, U16, U32, Validity, Address, Baud, Text, Error}
 use Rattle.replies.specs.Replies.{contentOf}
-use Rattle.replies.specs.Writer.{frameFor, writeReply}
+use Rattle.replies.specs.Writer.{replyChecks, frameFor, writeReply}
 use Rattle.replies.specs.Reader.{dataIn, textIn, Got, value, text, readReply}
 
 -- what every value of the code's types has: a number fits it, and a float is one of single precision
@@ -57,10 +59,6 @@ comesBack reply words (Baud rate) = served (value reply)
 comesBack reply words Text = served (text 4 (length words))
 comesBack reply words (Error code) = refused (15 carrying code)
 
--- the bytes of a whole body on the wire
-abbrev pub wire : List ℕ → List ℕ
-wire body = 0x7E ∷ stuff body ++ (0x7E ∷ [])
-
 pub record ReadBack : Type 0 where
   -- the bytes written are a stream of exactly one item, a frame; its body is read as the same reply with the same bit 7, and the
   -- text that stands in it is the text written
@@ -70,14 +68,14 @@ pub record ReadBack : Type 0 where
       × (items kind.Reply (map byte (take n after)) ≡ served body ∷ [])
       × (readReply address request body ≡ (comesBack reply words (contentOf reply), some bit7))
       × (contentOf reply ≡ Text → take (length words) (drop 4 body) ≡ words)
-  -- "every other good reply comes back byte for byte", whatever text stands beside it
-  pub read-then-written : (address : ℕ) (request : Request) (body : List ℕ) → Bytes body → (reply : Reply) (bit7 : Bool)
+  -- "every other good reply comes back byte for byte", from the wire on, whatever text stands beside it
+  pub read-then-written : (stretch body : List ℕ) → Received kind.Reply stretch body → (address : ℕ) (request : Request) (reply : Reply) (bit7 : Bool)
       → readReply address request body ≡ (served (value reply), some bit7)
-      → (words room : List ℕ) → writeReply address request reply words bit7 room ≡ emit (wire body) room
+      → (words room : List ℕ) → writeReply address request reply words bit7 room ≡ emit (closed stretch) room
   -- an error answer too
-  pub error-then-written : (address : ℕ) (request : Request) (body : List ℕ) → Bytes body → (code : ℕ) (bit7 : Bool)
+  pub error-then-written : (stretch body : List ℕ) → Received kind.Reply stretch body → (address : ℕ) (request : Request) (code : ℕ) (bit7 : Bool)
       → readReply address request body ≡ (refused (15 carrying code), some bit7)
-      → (words room : List ℕ) → writeReply address request (DeviceError code) words bit7 room ≡ emit (wire body) room
+      → (words room : List ℕ) → writeReply address request (DeviceError code) words bit7 room ≡ emit (closed stretch) room
   -- a string that is read: its text is the part of the data before the first 00, and stands at the place that is answered
   pub text-read : (address : ℕ) (request : Request) (body : List ℕ) (place n : ℕ) (bit7 : Bool)
       → readReply address request body ≡ (served (text place n), some bit7) → take n (drop place body) ≡ textIn (dataIn body)
@@ -90,9 +88,12 @@ pub record ReadBack : Type 0 where
       ≡ emit (frameFor address (row request .command) Text (textIn (dataIn body)) bit7) room)
       × (254 < n → writeReply address request ProductType (take n (drop place body)) bit7 room ≡ (refused (number 12), room))
   -- and where the data end in their only 00, it comes back byte for byte as well
-  pub whole-text-then-written : (address : ℕ) (request : Request) (body : List ℕ) → Bytes body → (place n : ℕ) (bit7 : Bool)
+  pub whole-text-then-written : (stretch body : List ℕ) → Received kind.Reply stretch body → (address : ℕ) (request : Request) (place n : ℕ) (bit7 : Bool)
       → readReply address request body ≡ (served (text place n), some bit7) → dataIn body ≡ textIn (dataIn body) ++ (0 ∷ [])
-      → (room : List ℕ) → writeReply address request ProductType (take n (drop place body)) bit7 room ≡ emit (wire body) room
-  -- the writer's 5 never comes
+      → (room : List ℕ) → writeReply address request ProductType (take n (drop place body)) bit7 room ≡ emit (closed stretch) room
+  -- when the writer gives each of its answers: the request's own 12, 13, 10, then 14, 12, 13 in their order, then 1; 5 never
+  pub decides : (address : ℕ) (request : Request) (reply : Reply) (words : List ℕ) (bit7 : Bool) (room : List ℕ)
+      → Decides (requestChecks address request ++ replyChecks address request reply words)
+      (frameFor address (row request .command) (contentOf reply) words bit7) room (writeReply address request reply words bit7 room .0)
   pub never-5 : (address : ℕ) (request : Request) (reply : Reply) (words : List ℕ) (bit7 : Bool) (room : List ℕ)
       → writeReply address request reply words bit7 room .0 ≡ refused (number 5) → ⊥

@@ -1,5 +1,5 @@
 -- 01, Commands of the SFC6 family: which reply answers which request, what a reply carries, and the rules of its values.
-use Prim.Native.Nat.{ℕ, min}
+use Prim.Native.Nat.{ℕ}
 use mathlib.Core.Bool.{Bool, false, cond, not, _||_}
 use lib.Dec.{ltb, eqb}
 use lib.Ieee.{binary32, toBits, ofBits}
@@ -27,8 +27,7 @@ readingOf bits =
     cond (eqb bits 0xFFFFFFFF) Invalid
     (cond (eqb bits 0x7F800000) PlusInfinity (cond (eqb bits 0xFF800000) MinusInfinity (Finite (ofBits binary32 bits))))
 
--- 01, Commands of the SFC6 family, the table: the reply that answers a request, of the number that its data stand for; a number
--- is cut to the largest that its type holds
+-- 01, Commands of the SFC6 family, the table: the reply that answers a request, of the number that its data stand for
 abbrev pub replyTo : Request → ℕ → Reply
 replyTo request.GetSetpoint n = Setpoint (readingOf n)
 replyTo (request.SetSetpoint x) n = Acknowledged
@@ -37,16 +36,16 @@ replyTo request.GetGain n = Gain (readingOf n)
 replyTo (request.SetGain x) n = Acknowledged
 replyTo request.GetInitStep n = InitStep (readingOf n)
 replyTo (request.SetInitStep x) n = Acknowledged
-replyTo request.RawFlow n = RawFlow (min n 65535)
-replyTo request.RawConductivity n = RawConductivity (min n 65535)
+replyTo request.RawFlow n = RawFlow n
+replyTo request.RawConductivity n = RawConductivity n
 replyTo request.Temperature n = Temperature (readingOf n)
 replyTo request.NumberOfCalibrations n = NumberOfCalibrations n
-replyTo (request.Validity index) n = Validity (min n 255)
+replyTo (request.Validity index) n = Validity n
 replyTo request.FullScale n = FullScale (readingOf n)
 replyTo request.GetCalibration n = Calibration n
 replyTo (request.SetCalibration c) n = Acknowledged
 replyTo (request.VolatileCalibration c) n = Acknowledged
-replyTo request.GetAddress n = Address (min n 255)
+replyTo request.GetAddress n = Address n
 replyTo (request.SetAddress a) n = Acknowledged
 replyTo request.GetBaud n = Baud n
 replyTo (request.SetBaud rate) n = Acknowledged
@@ -94,12 +93,12 @@ contentOf (Baud rate) = content.Baud rate
 contentOf ProductType = content.Text
 contentOf (DeviceError code) = content.Error code
 
--- 01, Refusal numbers, row 12, "a value out of its range": validity is 0 or 1, an address 0 to 254, a baud one of the five, an
--- error code 1 to 127
+-- 01, Refusal numbers, row 12, "a value out of its range": a u16 ends at 65,535, validity is 0 or 1, an address 0 to 254, a baud one of
+-- the five, an error code 1 to 127
 abbrev pub outOfRange : Content → Bool
 outOfRange content.Nothing = false
 outOfRange (content.Float x) = false
-outOfRange (content.U16 n) = false
+outOfRange (content.U16 n) = ltb 65535 n
 outOfRange (content.U32 n) = false
 outOfRange (content.Validity v) = ltb 1 v
 outOfRange (content.Address a) = ltb 254 a

@@ -5,10 +5,11 @@ use mathlib.Core.List.{List, [], _∷_, _++_}
 use lib.Dec.{ltb, eqb}
 use lib.ListN.{length}
 use Rattle.refusal.specs.Refusals.{Numbered, number, Answered, inOrder}
+use Rattle.refusal.specs.Room.{lay}
 use Rattle.shdlc.specs.Frame.{frameOf}
 use Rattle.payload.specs.Field.{bigEndian}
 use Rattle.sfc6.specs.Commands.{row, member}
-use Rattle.sfc6.specs.Requests.{requestChecks, lay}
+use Rattle.sfc6.specs.Requests.{requestChecks}
 use Rattle.sfc6.specs.declared.Request.{Request}
 use Rattle.replies.specs.declared.Reply.{Reply}
 use Rattle.replies.specs.declared.Content.{Content}
@@ -66,13 +67,16 @@ frameFor address command content text bit7 = frameOf (bodyOf address command (st
 
 -- 01, Refusal numbers, "Order": the request's own 12, 13, 10; "writing one with 14, 12, 13, 5, 1". "any other kind offered to a
 -- writer is 14, as is any reply to 255". "Number 5 is tested in both writers, for data over 255 bytes."
-abbrev pub writeChecks : ℕ → Request → Reply → List ℕ → List (Bool × Numbered)
-writeChecks address request reply text =
+abbrev pub replyChecks : ℕ → Request → Reply → List ℕ → List (Bool × Numbered)
+replyChecks address request reply text =
     (eqb address 255 || not (suits request reply), number 14)
     ∷ (outOfRange (contentOf reply) || badText (contentOf reply) text, number 12)
     ∷ (badFloat (contentOf reply), number 13)
-    ∷ (ltb 255 (length (dataOf (contentOf reply) text)), number 5)
     ∷ []
+
+abbrev pub writeChecks : ℕ → Request → Reply → List ℕ → List (Bool × Numbered)
+writeChecks address request reply text =
+    replyChecks address request reply text ++ ((ltb 255 (length (dataOf (contentOf reply) text)), number 5) ∷ [])
 
 -- the frame of a reply that is not refused
 unfoldable pub frameToWrite : ℕ → Request → Reply → List ℕ → Bool → Answered (List ℕ)

@@ -1,7 +1,7 @@
 -- A body that is read and written again comes to the same bytes. Assumes nothing.
 use mathlib.Core.Path.{_≡_, refl, sym, ap, subst, _∙_}
 use mathlib.Core.Bool.{Bool, true, false, cond, not, _&&_, true≢false}
-use mathlib.Core.List.{List, [], _∷_, _++_, map}
+use mathlib.Core.List.{List, [], _∷_, _++_}
 use mathlib.Core.Option.{Option, none, some}
 use Prim.Native.Nat.{ℕ, zero, suc, _+_, _-_, _^_, _≤_, _<_}
 use native.Mathlib.Omega.{arith}
@@ -13,12 +13,12 @@ use lib.Ieee.Bits.{toBits-ofBits}
 use borrow.Author.Tests.{eqb-true}
 use Rattle.refusal.specs.Refusals.{Answered, number, served}
 use Rattle.refusal.specs.Room.{emit, lay}
+use Rattle.shdlc.specs.declared.Kind.{Kind}
 use Rattle.shdlc.specs.declared.Kind.the-variants as kind
 use Rattle.shdlc.specs.Stuffing.{stuffByte, stuff}
 use Rattle.shdlc.specs.Body.{bodyChecks, checkBody}
 use Rattle.shdlc.specs.Frame.{withChecksum, frameOf}
-use Rattle.shdlc.specs.ReadBack.{closed, Unbroken}
-use Rattle.shdlc.specs.Stream.{byte, items}
+use Rattle.shdlc.specs.ReadBack.{closed}
 use Rattle.shdlc.proofs.Body.{passes, checked-body}
 use Rattle.shdlc.proofs.Stuffing.{each-byte}
 use Rattle.shdlc.proofs.Stream.{one-wire}
@@ -34,6 +34,7 @@ use Rattle.sfc6.specs.declared.Row.{Row}
 use Rattle.sfc6.specs.Commands.{row, table, requestAt, finite, outOfRange, badFloat}
 use Rattle.sfc6.specs.Requests.{requestChecks, checkRequest, subBytes, valueBytes, dataOf, bodyOf, writeRequest}
 use Rattle.sfc6.specs.Reading.{startsWith, named, fitting, first, carried, foundOr, typed, payloadOf, andThen, readRequest}
+use Rattle.sfc6.specs.ReadBack.{Received}
 use Rattle.sfc6.proofs.Order.{never, serves-it, and-then-served}
 use Rattle.sfc6.proofs.Checks.{passed-request}
 use Rattle.sfc6.proofs.Reading.{first-passes, both, fits-length}
@@ -253,14 +254,17 @@ unstuffed-bytes [] h i = h i
 unstuffed-bytes (b ∷ body) h zero = byte-unstuffed b (stuff body) h .0
 unstuffed-bytes (b ∷ body) h (suc i) = unstuffed-bytes body (byte-unstuffed b (stuff body) h .1) i
 
--- the same from the wire on
-pub wire-rewritten : (stretch : List ℕ) → Bytes stretch → Unbroken stretch → (body : List ℕ)
-    → items kind.Request (map byte (closed stretch)) ≡ served body ∷ [] → (address : ℕ) (request : Request)
+-- a frame from the wire: its stretch is its stuffed body, of bytes
+pub received-body : (kind : Kind) (stretch body : List ℕ) → Received kind stretch body → (stretch ≡ stuff body) × Bytes body
+received-body kind stretch body r =
+    let is = one-wire kind stretch (r .1) body (r .2) in
+    (is, unstuffed-bytes body (subst Bytes is (r .0)))
+
+pub wire-rewritten : (stretch body : List ℕ) → Received kind.Request stretch body → (address : ℕ) (request : Request)
     → readRequest body ≡ served (address, request) → (room : List ℕ) → writeRequest address request room ≡ emit (closed stretch) room
-wire-rewritten stretch bytes unbroken body e address request h room =
-    let is = one-wire kind.Request stretch unbroken body e in
-    read-rewritten body address request (unstuffed-bytes body (subst Bytes is bytes)) h room
-    ∙ ap (λ (s : List ℕ). emit (closed s) room) (sym is)
+wire-rewritten stretch body r address request h room =
+    let is = received-body kind.Request stretch body r in
+    read-rewritten body address request (is .1) h room ∙ ap (λ (s : List ℕ). emit (closed s) room) (sym (is .0))
 
 -- the body at a place of the table, of a request that passes its checks
 pub numbered-body : (address place n : ℕ) → place ≤ 20 → n < 2 ^ 32

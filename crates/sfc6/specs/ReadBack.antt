@@ -9,6 +9,7 @@ use lib.Ieee.{binary32, fits}
 use Rattle.refusal.specs.Refusals.{number, Answered, served, refused}
 use Rattle.refusal.specs.Room.{overlay, emit}
 use Rattle.refusal.specs.Order.{Decides}
+use Rattle.shdlc.specs.declared.Kind.{Kind}
 use Rattle.shdlc.specs.declared.Kind.the-variants as kind
 use Rattle.shdlc.specs.ReadBack.{closed, Unbroken}
 use Rattle.shdlc.specs.Frame.{withChecksum, frameOf}
@@ -29,6 +30,10 @@ Fits (Float x) = T (fits binary32 x)
 Fits (U32 n) = n < 2 ^ 32
 Fits (Address a) = a < 2 ^ 8
 Fits (Baud rate) = rate < 2 ^ 32
+
+-- a stretch of bytes on the wire gives a frame with this body
+abbrev pub Received : Kind → List ℕ → List ℕ → Type 0
+Received kind stretch body = Bytes stretch × Unbroken stretch × (items kind (map byte (closed stretch)) ≡ served body ∷ [])
 
 -- the frames of requests, each to its node, one after another
 unfoldable pub framesOf : List (ℕ × Request) → List ℕ
@@ -58,9 +63,8 @@ pub record ReadBack : Type 0 where
   pub written-then-read : (address : ℕ) (request : Request) → Fits (row request .value) → (room after : List ℕ) (n : ℕ)
       → writeRequest address request room ≡ (served n, after)
       → (body : List ℕ) × (items kind.Request (map byte (take n after)) ≡ served body ∷ []) × (readRequest body ≡ served (address, request))
-  -- a stretch on the wire that gives a frame which is read, and written again, comes to the same bytes
-  pub read-then-written : (stretch : List ℕ) → Bytes stretch → Unbroken stretch → (body : List ℕ)
-      → items kind.Request (map byte (closed stretch)) ≡ served body ∷ [] → (address : ℕ) (request : Request)
+  -- a frame from the wire that is read and written again comes to the same bytes
+  pub read-then-written : (stretch body : List ℕ) → Received kind.Request stretch body → (address : ℕ) (request : Request)
       → readRequest body ≡ served (address, request) → (room : List ℕ) → writeRequest address request room ≡ emit (closed stretch) room
   -- when the writer gives each of its answers: 12, 13, 10 in their order, then 1; 5 never
   pub decides : (address : ℕ) (request : Request) (room : List ℕ)
