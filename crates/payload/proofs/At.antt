@@ -1,9 +1,11 @@
 -- Fields at a place: the cases of reading one and of writing one, and that what is written is read back. Assumes nothing.
-use mathlib.Core.Path.{_≡_, sym, ap, subst, _∙_}
+use mathlib.Core.Path.{_≡_, refl, sym, ap, subst, _∙_}
+use mathlib.Core.Bool.{Bool, true, false}
 use mathlib.Core.List.{List, _++_}
-use Prim.Native.Nat.{ℕ, _+_, _/_, _^_, _≤_, _<_}
+use Prim.Native.Nat.{ℕ, _+_, _-_, _/_, _^_, _≤_, _<_}
 use native.Mathlib.Omega.{arith}
-use borrow.Author.Tests.{lt-ltb, le-ltb, le-leb, lt-leb}
+use lib.Dec.{ltb}
+use borrow.Author.Tests.{ltb-true, ltb-false, lt-ltb, le-ltb, le-leb, lt-leb}
 use lib.ListN.{length, take, drop, length-append}
 use lib.Seq.{take-at, drop-at, length-take-le}
 use Rattle.refusal.specs.declared.Refusal.{Refusal}
@@ -14,7 +16,7 @@ use Rattle.payload.specs.declared.fields.Placed.{Placed}
 use Rattle.payload.specs.declared.fields.Placed.the-variants.{Next, Refused}
 use Rattle.refusal.specs.Room.{overlay}
 use Rattle.refusal.proofs.Room.{overlay-then}
-use Rattle.payload.specs.Field.{big, bigEndian, bytesIn, fieldAt, putAt, paperPlaced}
+use Rattle.payload.specs.Field.{big, bigEndian, bytesIn, takenAt, putAt, paperPlaced}
 use Rattle.payload.proofs.Big.{length-big-endian, big-of-big-endian, big-endian-split}
 
 -- what holds at a width that is known
@@ -22,18 +24,33 @@ pub at-width : {A : Type 0} (f : ℕ → A) {width known : Width} {a : A} → wi
 at-width f {a = a} e h = subst (λ (w : Width). a ≡ f (bytesIn w)) (sym e) h
 
 module _ (payload : List ℕ) (place width : ℕ) where
-  pub field-refused : length payload < place + width → fieldAt payload place width ≡ refused (number 12)
-  unfolding fieldAt
-  field-refused h = rw (lt-ltb _ _ h)
+  pub taken-refused : length payload < place + width → takenAt payload place width ≡ (refused (number 12), place)
+  unfolding takenAt
+  taken-refused h = rw (lt-ltb _ _ h)
 
-  pub field-served : place + width ≤ length payload → fieldAt payload place width ≡ served (big (take width (drop place payload)), place + width)
-  unfolding fieldAt
-  field-served h = rw (le-ltb _ _ h)
+  pub taken-served : place + width ≤ length payload
+      → takenAt payload place width ≡ (served (big (take width (drop place payload))), place + width)
+  unfolding takenAt
+  taken-served h = rw (le-ltb _ _ h)
 
-  -- the same, of a number and a count that are known to be these
-  pub field-served-as : {n size : ℕ} → place + width ≤ length payload → n ≡ big (take width (drop place payload)) → size ≡ width
-      → fieldAt payload place width ≡ served (n, place + size)
-  field-served-as h e f = rw (e, f) (field-served h)
+  -- the same, as a test that is known to be this one decides
+  pub past-end : {t : Bool} → t ≡ true → t ≡ ltb (length payload) (place + width) → takenAt payload place width ≡ (refused (number 12), place)
+  past-end is e = taken-refused (ltb-true _ _ (sym e ∙ is))
+
+  pub fits : {t : Bool} → t ≡ false → t ≡ ltb (length payload) (place + width) → place + width ≤ length payload
+  fits is e = ltb-false _ _ (sym e ∙ is)
+
+  pub within : {t : Bool} → t ≡ false → t ≡ ltb (length payload) (place + width)
+      → takenAt payload place width ≡ (served (big (take width (drop place payload))), place + width)
+  within is e = taken-served (fits is e)
+
+-- the code's test subtracts
+subtracts : (t : Bool) (n size place : ℕ) → ltb (n - size) place ≡ t → size ≤ n → ltb (n - size) place ≡ ltb n (place + size)
+subtracts true n size place e h = e ∙ sym (lt-ltb n (place + size) (omega (arith, ltb-true (n - size) place e)))
+subtracts false n size place e h = e ∙ sym (le-ltb n (place + size) (omega (arith, ltb-false (n - size) place e)))
+
+pub ends-past : (n size place width : ℕ) → size ≡ width → size ≤ n → ltb (n - size) place ≡ ltb n (place + width)
+ends-past n size place width e h = subtracts (ltb (n - size) place) n size place refl h ∙ ap (λ (k : ℕ). ltb n (place + k)) e
 
 module _ (room : List ℕ) (place width n : ℕ) where
   pub put-out-of-range : 256 ^ width ≤ n → putAt room place width n ≡ (refused (number 12), room)
@@ -78,17 +95,17 @@ put-halves room place a b n h e f =
     rw (f, e, big-endian-split a b n) (overlay-then room place _ _ (place + a) long next)
 
 -- the bytes of a number, wherever they stand, are read as that number
-pub field-of-bytes : (front back : List ℕ) (place count n : ℕ) → length front ≡ place → n < 256 ^ count
-    → fieldAt (front ++ (bigEndian count n ++ back)) place count ≡ served (n, place + count)
-field-of-bytes front back place count n e f =
+pub taken-of-bytes : (front back : List ℕ) (place count n : ℕ) → length front ≡ place → n < 256 ^ count
+    → takenAt (front ++ (bigEndian count n ++ back)) place count ≡ (served n, place + count)
+taken-of-bytes front back place count n e f =
     let l : List ℕ = front ++ (bigEndian count n ++ back) in
     let long : place + count ≤ length l = simp (length-append, length-big-endian) (omega arith) in
     let value : big (take count (drop place l)) ≡ n =
     rw (drop-at front (bigEndian count n ++ back) place e, take-at (bigEndian count n) back count (length-big-endian count n)) (big-of-big-endian count n f) in
-    field-served l place count long ∙ rw value
+    taken-served l place count long ∙ rw value
 
 -- what is written is read back
-pub field-of-put : (room : List ℕ) (place width n : ℕ) → n < 256 ^ width → place + width ≤ length room
-    → fieldAt (overlay room place (bigEndian width n)) place width ≡ served (n, place + width)
+pub taken-of-put : (room : List ℕ) (place width n : ℕ) → n < 256 ^ width → place + width ≤ length room
+    → takenAt (overlay room place (bigEndian width n)) place width ≡ (served n, place + width)
 unfolding overlay
-field-of-put room place width n f h = field-of-bytes (take place room) _ place width n (length-take-le place room (omega arith)) f
+taken-of-put room place width n f h = taken-of-bytes (take place room) _ place width n (length-take-le place room (omega arith)) f

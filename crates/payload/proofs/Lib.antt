@@ -3,4 +3,6 @@ pub mod Big
 pub mod At
 pub mod OneToOne
 pub mod Taken
-pub mod Through
+pub mod Made
+pub mod Lent
+pub mod First

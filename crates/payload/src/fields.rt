@@ -1,4 +1,4 @@
-// The types of a field. They stand apart from the function `field`: one module takes no two names that differ only in case.
+// The types of a field. They stand apart from the functions: one module takes no two names that differ only in case.
 use refusal::Refusal;
 
 // How many bytes a field takes.
@@ -8,9 +8,19 @@ pub enum Width {
     Four,
 }
 
-// What reading a field answers: the number and the place after it, or why not.
-pub enum Field {
-    Value(u32, usize),
+// What taking a field answers: its value, or why not.
+pub enum FieldU8 {
+    Value(u8),
+    Refused(Refusal),
+}
+
+pub enum FieldU16 {
+    Value(u16),
+    Refused(Refusal),
+}
+
+pub enum FieldU32 {
+    Value(u32),
     Refused(Refusal),
 }
 

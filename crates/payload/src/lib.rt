@@ -2,22 +2,18 @@
 use refusal::Refusal;
 ghost use mathlib.Core.Path.{_≡_};
 ghost use Prim.Native.Nat.{_+_, _^_, _≤_, _<_};
+ghost use lib.Dec.{ltb};
 ghost use lib.ListN.{length, take, drop};
 ghost use Rattle.refusal.specs.Room.{overlay};
-ghost use Rattle.payload.specs.Field.{big, bigEndian, bytesIn, fieldAt, putAt, paperField, paperPlaced};
+ghost use Rattle.payload.specs.Field.{big, bigEndian, bytesIn, takenAt, putAt, paperU8, paperU16, paperU32, paperPlaced};
 
 mod fields;
 
-pub use fields::Field;
+pub use fields::FieldU16;
+pub use fields::FieldU32;
+pub use fields::FieldU8;
 pub use fields::Placed;
 pub use fields::Width;
-
-// A byte as a number that can be shifted up.
-fn wide(b: u8) -> u32
-    ensures { λ r. ⌜ r ≡ b ⌝ }
-{
-    b as u32
-}
 
 // How many bytes a width is.
 fn bytes_in(width: Width) -> usize
@@ -30,20 +26,33 @@ fn bytes_in(width: Width) -> usize
     }
 }
 
-// The number of one byte, of two and of four at a place. The last two are made of halves, not in a loop: they compile to one load.
-fn one(payload: &[u8], place: usize) -> u32
-    requires { ⌜ place + 1 ≤ length (now payload) ⌝ }
-    ensures { λ r. ⌜ (r ≡ big (take 1 (drop place (now (payload .entry))))) × (r < 0x100) ⌝ }
+// A number with room above it, so that another can stand below.
+fn byte_below(b: u8) -> u16
+    ensures { λ r. ⌜ r ≡ b ⌝ }
 {
-    wide(payload[place])
+    b as u16
 }
 
-fn two(payload: &[u8], place: usize) -> u32
-    requires { ⌜ place + 2 ≤ length (now payload) ⌝ }
-    ensures { λ r. ⌜ (r ≡ big (take 2 (drop place (now (payload .entry))))) × (r < 0x10000) ⌝ }
+fn half_below(n: u16) -> u32
+    ensures { λ r. ⌜ r ≡ n ⌝ }
 {
-    let high = one(payload, place);
-    let low = one(payload, place + 1);
+    n as u32
+}
+
+// The number of one byte, of two and of four at a place. The last two are made of halves, not in a loop: they compile to one load.
+fn one(payload: &[u8], place: usize) -> u8
+    requires { ⌜ place + 1 ≤ length (now payload) ⌝ }
+    ensures { λ r. ⌜ r ≡ big (take 1 (drop place (now (payload .entry)))) ⌝ }
+{
+    payload[place]
+}
+
+fn two(payload: &[u8], place: usize) -> u16
+    requires { ⌜ place + 2 ≤ length (now payload) ⌝ }
+    ensures { λ r. ⌜ r ≡ big (take 2 (drop place (now (payload .entry)))) ⌝ }
+{
+    let high = byte_below(one(payload, place));
+    let low = byte_below(one(payload, place + 1));
     high * 0x100 + low
 }
 
@@ -51,36 +60,59 @@ fn four(payload: &[u8], place: usize) -> u32
     requires { ⌜ place + 4 ≤ length (now payload) ⌝ }
     ensures { λ r. ⌜ r ≡ big (take 4 (drop place (now (payload .entry)))) ⌝ }
 {
-    let high = two(payload, place);
-    let low = two(payload, place + 2);
+    let high = half_below(two(payload, place));
+    let low = half_below(two(payload, place + 2));
     high * 0x10000 + low
 }
 
-// The same by the width.
-fn value_at(payload: &[u8], place: usize, width: Width) -> u32
-    requires { ⌜ place + bytesIn width ≤ length (now payload) ⌝ }
-    ensures { λ r. ⌜ r ≡ big (take (bytesIn width) (drop place (now (payload .entry)))) ⌝ }
-{
-    match width {
-        Width::One => one(payload, place),
-        Width::Two => two(payload, place),
-        Width::Four => four(payload, place),
-    }
-}
-
-// The big-endian number at a place of a payload, and the place after it; 12 past the end. It subtracts, so that no place overflows.
-pub fn field(payload: &[u8], place: usize, width: Width) -> Field
-    ensures { λ r. ⌜ paperField r ≡ fieldAt (now (payload .entry)) place (bytesIn width) ⌝ }
+// Whether a field ends past the payload's end. It subtracts, so that no place overflows.
+fn past_end(payload: &[u8], place: usize, width: Width) -> bool
+    ensures { λ r. ⌜ r ≡ ltb (length (now (payload .entry))) (place + bytesIn width) ⌝ }
 {
     let size = bytes_in(width);
     let n = payload.len();
     if n < size {
-        return Field::Refused(Refusal::OutOfRange);
+        return true;
     }
-    if n - size < place {
-        return Field::Refused(Refusal::OutOfRange);
+    n - size < place
+}
+
+// The field at a place of a payload: its number, or 12 past the end.
+pub fn u8_at(payload: &[u8], place: usize) -> FieldU8
+    ensures { λ f. ⌜ paperU8 f ≡ takenAt (now (payload .entry)) place 1 .0 ⌝ }
+{
+    if past_end(payload, place, Width::One) {
+        return FieldU8::Refused(Refusal::OutOfRange);
     }
-    Field::Value(value_at(payload, place, width), place + size)
+    FieldU8::Value(one(payload, place))
+}
+
+pub fn u16_at(payload: &[u8], place: usize) -> FieldU16
+    ensures { λ f. ⌜ paperU16 f ≡ takenAt (now (payload .entry)) place 2 .0 ⌝ }
+{
+    if past_end(payload, place, Width::Two) {
+        return FieldU16::Refused(Refusal::OutOfRange);
+    }
+    FieldU16::Value(two(payload, place))
+}
+
+pub fn u32_at(payload: &[u8], place: usize) -> FieldU32
+    ensures { λ f. ⌜ paperU32 f ≡ takenAt (now (payload .entry)) place 4 .0 ⌝ }
+{
+    if past_end(payload, place, Width::Four) {
+        return FieldU32::Refused(Refusal::OutOfRange);
+    }
+    FieldU32::Value(four(payload, place))
+}
+
+// The place after the field at a place: the place itself where the field ends past the payload's end.
+pub fn next_place(payload: &[u8], place: usize, width: Width) -> usize
+    ensures { λ r. ⌜ r ≡ takenAt (now (payload .entry)) place (bytesIn width) .1 ⌝ }
+{
+    if past_end(payload, place, width) {
+        return place;
+    }
+    place + bytes_in(width)
 }
 
 // The largest number of a width.
@@ -156,59 +188,68 @@ pub struct Reader<'a> {
     pub place: usize,
 }
 
-// The reader of a payload from a place on.
-pub fn reader_at<'a>(payload: &'a [u8], place: usize) -> Reader<'a>
-    ensures { λ r. ⌜ (r .payload ≡ payload .entry) × (r .place ≡ place) ⌝ }
+// The reader of a payload, at its first field.
+pub fn reader_of<'a>(payload: &'a [u8]) -> Reader<'a>
+    ensures { λ r. ⌜ (r .payload ≡ payload .entry) × (r .place ≡ 0) ⌝ }
 {
-    Reader { payload, place }
+    Reader { payload, place: 0 }
 }
 
-// The reader's next field, of one, two or four bytes. A reader is a value and stays as it was: the next one is made at the place that
-// the answer gives. With 12 there is no such place, so the reader's own stays.
-pub fn take_u8<'a>(r: Reader<'a>) -> Field
-    ensures { λ f. ⌜ paperField f ≡ fieldAt (now (r .entry .payload)) (r .entry .place) 1 ⌝ }
+// Takes the reader's next field: its number, and the place moves on; past the end 12, and the place stays.
+pub fn take_u8<'s, 'a>(r: &'s mut Reader<'a>) -> FieldU8
+    ensures { λ f. ⌜ ((paperU8 f, now (r .exit) .place) ≡ takenAt (now (now (r .entry) .payload)) (now (r .entry) .place) 1) × (now (r .exit) .payload ≡ now (r .entry) .payload) ⌝ }
 {
-    field(r.payload, r.place, Width::One)
+    let payload = r.payload;
+    let place = r.place;
+    r.place = next_place(payload, place, Width::One);
+    u8_at(payload, place)
 }
 
-pub fn take_u16<'a>(r: Reader<'a>) -> Field
-    ensures { λ f. ⌜ paperField f ≡ fieldAt (now (r .entry .payload)) (r .entry .place) 2 ⌝ }
+pub fn take_u16<'s, 'a>(r: &'s mut Reader<'a>) -> FieldU16
+    ensures { λ f. ⌜ ((paperU16 f, now (r .exit) .place) ≡ takenAt (now (now (r .entry) .payload)) (now (r .entry) .place) 2) × (now (r .exit) .payload ≡ now (r .entry) .payload) ⌝ }
 {
-    field(r.payload, r.place, Width::Two)
+    let payload = r.payload;
+    let place = r.place;
+    r.place = next_place(payload, place, Width::Two);
+    u16_at(payload, place)
 }
 
-pub fn take_u32<'a>(r: Reader<'a>) -> Field
-    ensures { λ f. ⌜ paperField f ≡ fieldAt (now (r .entry .payload)) (r .entry .place) 4 ⌝ }
+pub fn take_u32<'s, 'a>(r: &'s mut Reader<'a>) -> FieldU32
+    ensures { λ f. ⌜ ((paperU32 f, now (r .exit) .place) ≡ takenAt (now (now (r .entry) .payload)) (now (r .entry) .place) 4) × (now (r .exit) .payload ≡ now (r .entry) .payload) ⌝ }
 {
-    field(r.payload, r.place, Width::Four)
+    let payload = r.payload;
+    let place = r.place;
+    r.place = next_place(payload, place, Width::Four);
+    u32_at(payload, place)
 }
 
-// The number at a place of a payload, read through a reader: of one byte, of two and of four.
-fn u8_at(payload: &[u8], place: usize) -> Field
-    ensures { λ f. ⌜ paperField f ≡ fieldAt (now (payload .entry)) place 1 ⌝ }
+// The first field of a payload, taken by a reader. Its parameters are plain, so that a caller's proof has no reader in it.
+pub fn first_u8(payload: &[u8]) -> FieldU8
+    ensures { λ f. ⌜ paperU8 f ≡ takenAt (now (payload .entry)) 0 1 .0 ⌝ }
 {
-    take_u8(reader_at(payload, place))
+    let mut r = reader_of(payload);
+    take_u8(&mut r)
 }
 
-fn u16_at(payload: &[u8], place: usize) -> Field
-    ensures { λ f. ⌜ paperField f ≡ fieldAt (now (payload .entry)) place 2 ⌝ }
+pub fn first_u16(payload: &[u8]) -> FieldU16
+    ensures { λ f. ⌜ paperU16 f ≡ takenAt (now (payload .entry)) 0 2 .0 ⌝ }
 {
-    take_u16(reader_at(payload, place))
+    let mut r = reader_of(payload);
+    take_u16(&mut r)
 }
 
-fn u32_at(payload: &[u8], place: usize) -> Field
-    ensures { λ f. ⌜ paperField f ≡ fieldAt (now (payload .entry)) place 4 ⌝ }
+pub fn first_u32(payload: &[u8]) -> FieldU32
+    ensures { λ f. ⌜ paperU32 f ≡ takenAt (now (payload .entry)) 0 4 .0 ⌝ }
 {
-    take_u32(reader_at(payload, place))
+    let mut r = reader_of(payload);
+    take_u32(&mut r)
 }
 
-// The same by the width. Its parameters are plain, so that a caller's proof has no reader in it.
-pub fn number_at(payload: &[u8], place: usize, width: Width) -> Field
-    ensures { λ f. ⌜ paperField f ≡ fieldAt (now (payload .entry)) place (bytesIn width) ⌝ }
+// The field of four bytes after the first of one, the subcommand, both taken by one reader.
+pub fn u32_after_u8(payload: &[u8]) -> FieldU32
+    ensures { λ f. ⌜ paperU32 f ≡ takenAt (now (payload .entry)) (takenAt (now (payload .entry)) 0 1 .1) 4 .0 ⌝ }
 {
-    match width {
-        Width::One => u8_at(payload, place),
-        Width::Two => u16_at(payload, place),
-        Width::Four => u32_at(payload, place),
-    }
+    let mut r = reader_of(payload);
+    take_u8(&mut r);
+    take_u32(&mut r)
 }
