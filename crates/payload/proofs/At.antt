@@ -6,10 +6,10 @@ use Prim.Native.Nat.{ℕ, _+_, _-_, _/_, _^_, _≤_, _<_}
 use native.Mathlib.Omega.{arith}
 use lib.Dec.{ltb}
 use borrow.Author.Tests.{ltb-true, ltb-false, lt-ltb, le-ltb, le-leb, lt-leb}
-use lib.ListN.{length, take, drop, length-append}
-use lib.Seq.{take-at, drop-at, length-take-le}
+use lib.ListN.{length, take, drop, length-append, length-drop}
+use lib.Seq.{take-at, take-all, drop-at, length-take-le}
 use Rattle.refusal.specs.declared.Refusal.{Refusal}
-use Rattle.refusal.specs.Refusals.{number, Answered, served, refused}
+use Rattle.refusal.specs.Refusals.{Numbered, number, Answered, served, refused}
 use Rattle.refusal.proofs.Order.{refused-not-served}
 use Rattle.payload.specs.declared.fields.Width.{Width}
 use Rattle.payload.specs.declared.fields.Placed.{Placed}
@@ -48,6 +48,27 @@ module _ (payload : List ℕ) (place width : ℕ) where
 subtracts : (t : Bool) (n size place : ℕ) → ltb (n - size) place ≡ t → size ≤ n → ltb (n - size) place ≡ ltb n (place + size)
 subtracts true n size place e h = e ∙ sym (lt-ltb n (place + size) (omega (arith, ltb-true (n - size) place e)))
 subtracts false n size place e h = e ∙ sym (le-ltb n (place + size) (omega (arith, ltb-false (n - size) place e)))
+
+-- a field that is all of a payload, and one of four bytes that is all but the first
+pub taken-whole : (payload : List ℕ) (width : ℕ) → length payload ≡ width → takenAt payload 0 width .0 ≡ served (big payload)
+taken-whole payload width e =
+    ap (λ (o : Answered ℕ × ℕ). o .0) (taken-served payload 0 width (omega arith))
+    ∙ ap (λ (l : List ℕ). served (big l)) (take-all width payload (omega arith))
+
+pub taken-after : (payload : List ℕ) → length payload ≡ 5 → takenAt payload (takenAt payload 0 1 .1) 4 .0 ≡ served (big (drop 1 payload))
+taken-after payload e =
+    let one : takenAt payload 0 1 .1 ≡ 1 = ap (λ (o : Answered ℕ × ℕ). o .1) (taken-served payload 0 1 (omega arith)) in
+    ap (λ (k : ℕ). takenAt payload k 4 .0) one
+    ∙ ap (λ (o : Answered ℕ × ℕ). o .0) (taken-served payload 1 4 (omega arith))
+    ∙ ap (λ (l : List ℕ). served (big l)) (take-all 4 (drop 1 payload) (omega (arith, length-drop 1 payload)))
+
+-- what was taken, where that is known
+pub taken-number : {n m : ℕ} {a b : Answered ℕ} → served n ≡ a → a ≡ b → b ≡ served m → n ≡ m
+taken-number {n} {m} e f g = let h : served n ≡ served m = e ∙ f ∙ g in cc
+
+pub taken-never : {A : Type 0} {n : Numbered} {m : ℕ} {a b : Answered ℕ} → refused n ≡ a → a ≡ b → b ≡ served m → A
+taken-never e f g = absurd (refused-not-served (e ∙ f ∙ g))
+
 
 pub ends-past : (n size place width : ℕ) → size ≡ width → size ≤ n → ltb (n - size) place ≡ ltb n (place + width)
 ends-past n size place width e h = subtracts (ltb (n - size) place) n size place refl h ∙ ap (λ (k : ℕ). ltb n (place + k)) e

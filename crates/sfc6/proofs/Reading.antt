@@ -18,13 +18,12 @@ use Rattle.shdlc.specs.declared.Checked.the-variants.{Good, Refused}
 use Rattle.shdlc.specs.Body.{checkBody}
 use Rattle.shdlc.specs.Paper.{paperChecked}
 use Rattle.shdlc.proofs.Body.{passes}
-use Rattle.payload.specs.Field.{big, fieldAt}
-use Rattle.payload.proofs.At.{field-served}
+use Rattle.payload.specs.Field.{big}
 use Rattle.sfc6.specs.declared.Request.{Request}
 use Rattle.sfc6.specs.declared.Subcommand.{Subcommand}
 use Rattle.sfc6.specs.declared.Subcommand.the-variants as sub
 use Rattle.sfc6.specs.declared.Value.{Value}
-use Rattle.sfc6.specs.declared.Value.the-variants.{Nothing}
+use Rattle.sfc6.specs.declared.Value.the-variants.{Nothing, Float, U32, Address, Baud}
 use Rattle.sfc6.specs.declared.Row.{Row}
 use Rattle.sfc6.specs.declared.Found.{Found}
 use Rattle.sfc6.specs.declared.Found.the-variants.{At, Nothing as Missing}
@@ -37,34 +36,56 @@ use Rattle.sfc6.specs.Paper.{paperPassed, paperFound, paperTyped}
 use Rattle.sfc6.proofs.Order.{never}
 use Rattle.sfc6.proofs.Table.{last}
 
--- a field that ends with the payload
-module _ (payload : List ℕ) (place width : ℕ) (ends : length payload ≡ place + width) where
-  pub field-read : (n next : ℕ) → served (n, next) ≡ fieldAt payload place width → n ≡ big (drop place payload)
-  field-read n next h =
-      let e : _≡_ {A = Answered (ℕ × ℕ)} (served (n, next)) (served (big (take width (drop place payload)), place + width)) = h ∙ field-served payload place width (omega arith) in
-      let f : _≡_ {A = ℕ × ℕ} (n, next) (big (take width (drop place payload)), place + width) = cc in
-      ap (λ (x : ℕ × ℕ). x .0) f ∙ ap big (take-all width (drop place payload) (omega (arith, length-drop place payload)))
+-- what a row carries; an address is a byte
+abbrev pub Carried : Row → List ℕ → ℕ → Type 0
+Carried r payload n = (n ≡ carried r payload) × ((a : ℕ) → r .value ≡ Address a → n < 256)
 
-  pub field-there : {A : Type 0} (m : Numbered) → refused m ≡ fieldAt payload place width → A
-  field-there m h = never (sym (h ∙ field-served payload place width (omega arith)))
+-- whether a value is an address
+unfoldable pub addresses : Value → ℕ
+addresses Nothing = 0
+addresses (Float x) = 0
+addresses (U32 n) = 0
+addresses (Address a) = 1
+addresses (Baud rate) = 0
 
--- what a row carries, by the kind of its value
-module _ (r : Row) (payload : List ℕ) (whole : length payload ≡ length (dataOf r)) (known : Value) (is : r .value ≡ known) (place : ℕ)
-    (after : place ≡ length (subBytes (r .sub))) where
-  pub value-ends : length payload ≡ place + length (valueBytes known)
+module _ (r : Row) (payload : List ℕ) (whole : length payload ≡ length (dataOf r)) (known : Value) (is : r .value ≡ known) where
+  abbrev after : ℕ
+  after = length (subBytes (r .sub))
+
+  pub value-ends : length payload ≡ after + length (valueBytes known)
   unfolding dataOf
   value-ends =
       let l = length-append (subBytes (r .sub)) (valueBytes (r .value)) in
       let k : length (valueBytes (r .value)) ≡ length (valueBytes known) = ap (λ (v : Value). length (valueBytes v)) is in
       omega arith
 
-pub carried-number : (r : Row) (payload : List ℕ) (place n : ℕ) → place ≡ length (subBytes (r .sub)) → n ≡ big (drop place payload) → n ≡ carried r payload
-unfolding carried
-carried-number r payload place n e h = h ∙ rw e
+  pub carried-number : addresses known ≡ 0 → {n : ℕ} → n ≡ big (drop after payload) → Carried r payload n
+  unfolding carried addresses
+  carried-number plain h = (
+    h,
+    λ a e.
+    let z : addresses known ≡ 1 = ap addresses (sym is ∙ e) in
+    absurd (omega arith),
+  )
 
-pub carried-nothing : (r : Row) (payload : List ℕ) (place : ℕ) → place ≡ length (subBytes (r .sub)) → length payload ≡ place + 0 → 0 ≡ carried r payload
-unfolding big
-carried-nothing r payload place e h = carried-number r payload place 0 e (sym (ap big (drop-of-length-le payload {i = place} (omega arith))))
+  pub carried-nothing : addresses known ≡ 0 → length (valueBytes known) ≡ 0 → Carried r payload 0
+  unfolding big
+  carried-nothing plain h = carried-number plain (sym (ap big (drop-of-length-le payload {i = after} (omega (arith, value-ends)))))
+
+  pub carried-byte : (place : ℕ) → place ≡ after → {b n : ℕ} → b ≡ big (take (length payload - place) (drop place payload)) → n ≡ b → n < 256
+      → Carried r payload n
+  unfolding carried
+  carried-byte place e h f small = (
+    f ∙ h ∙ rw e (ap big (take-all (length payload - after) (drop after payload) (omega (arith, length-drop after payload)))),
+    λ a same. small,
+  )
+
+  -- the rest of data that end in a byte
+  pub one-left : (place : ℕ) → place ≡ after → length (valueBytes known) ≡ 1 → (place ≤ length payload) × (length (take (length payload - place) (drop place payload)) ≡ 1)
+  one-left place e h =
+      let l = value-ends in
+      let d = length-drop place payload in
+      (omega arith, ap length (take-all (length payload - place) (drop place payload) (omega arith)) ∙ omega arith)
 
 -- the first data byte against the subcommand
 pub starts-empty : (s : ℕ) (payload : List ℕ) → length payload ≡ 0 → false ≡ startsWith (sub.Byte s) payload
@@ -176,6 +197,11 @@ module _ (command : ℕ) (payload : List ℕ) where
       typed-whole =
           rw (at-row, request)
           (fits-length command payload (row (requestAt place 0)) (first-passes (fitting command payload) table (requestAt place) fits))
+
+      -- the place of set address carries a byte
+      pub typed-byte : {n : ℕ} → Carried r payload n → place ≡ 17 → n < 256
+      unfolding row
+      typed-byte k e = k .1 0 (ap (λ (x : Row). x .value) at-row ∙ ap (λ (x : Request). row x .value) request ∙ ap (λ (m : ℕ). row (requestAt m 0) .value) e)
 
       pub typed-known : {n : ℕ} → n ≡ carried r payload → {answer : Request} → answer ≡ requestAt place n → served answer ≡ typed command payload
       unfolding typed

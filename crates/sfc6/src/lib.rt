@@ -1,6 +1,6 @@
 // The typed commands of the SFC6 family: the table, and requests written and read.
-use payload::Field;
-use payload::Width;
+use payload::FieldU32;
+use payload::FieldU8;
 use refusal::Refusal;
 use shdlc::Checked;
 use shdlc::Kind;
@@ -8,7 +8,7 @@ use shdlc::Written;
 ghost use mathlib.Core.Path.{_≡_};
 ghost use mathlib.Core.Logic.{_⊎_};
 ghost use mathlib.Core.List.{[], _∷_, _++_};
-ghost use Prim.Native.Nat.{_+_, _-_, _/_, _%_, _≤_, _<_, min};
+ghost use Prim.Native.Nat.{ℕ, _+_, _-_, _/_, _%_, _≤_, _<_, min};
 ghost use mathlib.Core.Bool.{cond};
 ghost use lib.Dec.{ltb, eqb};
 ghost use lib.ListN.{length, take, drop};
@@ -23,7 +23,7 @@ ghost use Rattle.shdlc.specs.Checksum.{sum};
 ghost use Rattle.shdlc.specs.Stuffing.{stuffByte, stuff};
 ghost use Rattle.shdlc.specs.Frame.{frameOf, writeFrame};
 ghost use Rattle.shdlc.specs.Paper.{paperWritten, writtenOf};
-ghost use Rattle.payload.specs.Field.{big, bytesIn, bigEndian};
+ghost use Rattle.payload.specs.Field.{big, bigEndian};
 ghost use Rattle.sfc6.specs.Paper.{paperPassed, paperRound, paperFound, paperTyped, paperRead};
 
 // A request, with the value that it carries.
@@ -785,31 +785,64 @@ fn find(command: u8, payload: &[u8], whole: bool) -> Found
     Found::Nothing
 }
 
-// The number of a width that ends the data.
-fn number(payload: &[u8], place: usize, width: Width) -> u32
-    requires { ⌜ length (now payload) ≡ place + bytesIn width ⌝ }
-    ensures { λ r. ⌜ r ≡ big (drop place (now (payload .entry))) ⌝ }
+// Data that are one byte, data that are four, and four bytes after the subcommand: each taken by a reader.
+fn byte(payload: &[u8]) -> u8
+    requires { ⌜ length (now payload) ≡ 1 ⌝ }
+    ensures { λ r. ⌜ r ≡ big (now (payload .entry)) ⌝ }
 {
-    match payload::number_at(payload, place, width) {
-        Field::Value(n, _) => n,
-        Field::Refused(_) => 0,
+    match payload::first_u8(payload) {
+        FieldU8::Value(n) => n,
+        FieldU8::Refused(_) => 0,
+    }
+}
+
+fn long(payload: &[u8]) -> u32
+    requires { ⌜ length (now payload) ≡ 4 ⌝ }
+    ensures { λ r. ⌜ r ≡ big (now (payload .entry)) ⌝ }
+{
+    match payload::first_u32(payload) {
+        FieldU32::Value(n) => n,
+        FieldU32::Refused(_) => 0,
+    }
+}
+
+fn long_after(payload: &[u8]) -> u32
+    requires { ⌜ length (now payload) ≡ 5 ⌝ }
+    ensures { λ r. ⌜ r ≡ big (drop 1 (now (payload .entry))) ⌝ }
+{
+    match payload::u32_after_u8(payload) {
+        FieldU32::Value(n) => n,
+        FieldU32::Refused(_) => 0,
+    }
+}
+
+// The number of four bytes that ends the data.
+fn last_long(sub: Subcommand, payload: &[u8]) -> u32
+    requires { ⌜ length (now payload) ≡ length (subBytes sub) + 4 ⌝ }
+    ensures { λ r. ⌜ r ≡ big (drop (length (subBytes sub)) (now (payload .entry))) ⌝ }
+{
+    match sub {
+        Subcommand::Missing => long(payload),
+        Subcommand::Byte(_) => long_after(payload),
     }
 }
 
 // The number that stands after the subcommand.
 fn carried(row: Row, payload: &[u8]) -> u32
     requires { ⌜ length (now payload) ≡ length (dataOf row) ⌝ }
-    ensures { λ r. ⌜ r ≡ carried row (now (payload .entry)) ⌝ }
+    ensures { λ r. ⌜ (r ≡ carried row (now (payload .entry))) × ((a : ℕ) → row .value ≡ Value.Address a → r < 256) ⌝ }
 {
     let sub = row.sub;
     let value = row.value;
-    let place = sub_size(sub);
     match value {
         Value::Nothing => 0,
-        Value::Float(_) => number(payload, place, Width::Four),
-        Value::U32(_) => number(payload, place, Width::Four),
-        Value::Address(_) => number(payload, place, Width::One),
-        Value::Baud(_) => number(payload, place, Width::Four),
+        Value::Float(_) => last_long(sub, payload),
+        Value::U32(_) => last_long(sub, payload),
+        Value::Address(_) => {
+            let place = sub_size(sub);
+            wide(byte(&payload[place..]))
+        }
+        Value::Baud(_) => last_long(sub, payload),
     }
 }
 

@@ -1,6 +1,6 @@
 -- `sfc6::read_typed` meets its contract. Assumes nothing.
 use borrow.Author.Needs.{needs}
-use Rattle.sfc6.proofs.Reading.{typed-unknown, typed-unfit, typed-whole, typed-known}
+use Rattle.sfc6.proofs.Reading.{typed-unknown, typed-unfit, typed-whole, typed-byte, typed-known}
 use Rattle.sfc6.proofs.read_typed.Statement.{statement}
 use Rattle.sfc6.proofs.read_typed.Tie as tie
 
@@ -15,12 +15,18 @@ carried-requires c κs =
     let p = c .before .before .before in
     typed-whole _ _ (p .before .before .find .ensures) (p .place .given .1) (c .before .request-at .ensures) (c .row-of .ensures)
 
+request-at-requires-2 : tie.Need-request-at-requires-2
+request-at-requires-2 c κs =
+    let r = c .before in
+    let p = r .before .before .before in
+    typed-byte _ _ (p .before .before .find .ensures) (p .place .given .1) (r .before .request-at .ensures) (r .row-of .ensures) (c .carried .ensures)
+
 returns-3 : tie.Need-returns-3
 returns-3 c =
     let r = c .before .before in
     let p = r .before .before .before in
     typed-known _ _ (p .before .before .find .ensures) (p .place .given .1) (r .before .request-at .ensures) (r .row-of .ensures)
-    (c .before .carried .ensures) (c .request-at2 .ensures)
+    (c .before .carried .ensures .0) (c .request-at2 .ensures)
 
 pub read-typed-spec : {M : Type 1} → statement M
 read-typed-spec =
@@ -37,5 +43,5 @@ read-typed-spec =
     (λ c κs. search needs)
     (λ c κs. search needs)
     carried-requires
-    (λ c κs. search needs)
+    request-at-requires-2
     returns-3)
