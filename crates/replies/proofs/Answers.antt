@@ -2,15 +2,16 @@
 use mathlib.Core.Path.{_≡_, refl, sym, ap, subst, _∙_}
 use mathlib.Core.Bool.{Bool, true, false, cond, not, _||_}
 use mathlib.Core.List.{List, [], _∷_, _++_}
-use mathlib.Core.Option.{Option, none, some, Option·getD}
+use mathlib.Core.Option.{Option, none, some}
 use Prim.Native.Nat.{ℕ, _+_, _-_, _≤_}
 use native.Mathlib.Omega.{arith}
 use lib.Dec.{T, eqb}
-use lib.ListN.{length, getD, take, drop}
-use borrow.Author.Tests.{eq-eqb, ne-eqb, eqb-true, not-false}
+use lib.ListN.{length, getD, take, drop, length-take, length-drop}
+use borrow.Author.Tests.{eq-eqb, ne-eqb, not-false}
 use types.Run.{OneOf}
 use denote.Enum.Declared.{tagOf}
 use Rattle.refusal.specs.declared.Refusal.{Refusal}
+use Rattle.refusal.proofs.Deciding.{Without}
 use Rattle.refusal.specs.Refusals.{Numbered, number, _carrying_, numberIn, Answered, served, refused, paper, inOrder}
 use Rattle.shdlc.specs.declared.Kind.the-variants as kind
 use Rattle.shdlc.specs.declared.Checked.{Checked}
@@ -36,76 +37,49 @@ use Rattle.replies.specs.Reader.{codeIn, bit7In, lengthIn, dataIn, sizeO
 use Rattle.replies.proofs.Apart.{apart}
 use Rattle.replies.proofs.Table.{contentFrom, tabled}
 
--- ---- the reply of a number
-abbrev pub ofNumber : Request → ℕ → Bool → Answered Got × Option Bool
-ofNumber q n bit7 = withBit7 (inOrder (valueChecks (replyTo q n)) (value (replyTo q n))) bit7
-
-module _ (q : Request) (n : ℕ) (bit7 : Bool) {r : Reply} (is : r ≡ replyTo q n) {c : Content} (carried : c ≡ contentOf r) {x : Bool} (range : x ≡ outOfRange c) where
-  pub number-12 : x ≡ true → (refused (number 12), none) ≡ ofNumber q n bit7
-  number-12 h = rw (← is, ← carried, ← range, h)
-
-  module _ (in-range : x ≡ false) {y : Bool} (float : y ≡ badFloat c) where
-    pub number-13 : y ≡ true → (refused (number 13), none) ≡ ofNumber q n bit7
-    number-13 h = rw (← is, ← carried, ← range, in-range, ← float, h)
-
-    pub number-read : y ≡ false → (served (value r), some bit7) ≡ ofNumber q n bit7
-    number-read h = rw (← is, ← carried, ← range, in-range, ← float, h)
-
 -- ---- the data, their length settled
 abbrev pub ofData : Request → Answer → List ℕ → Bool → Answered Got × Option Bool
-ofData q a body bit7 = withBit7 (inOrder (valueChecks (replyTo q (big (dataIn body)))) (gotBy (sizeOf a) q (dataIn body))) bit7
-
--- how many data bytes the number has; a text has none
-abbrev pub count : Answer → ℕ
-count a = Option·getD (sizeOf a) 0
-
-pub count-there : (a : Answer) (n : ℕ) → isSize (sizeOf a) (n - 5) ≡ true → 5 ≤ n → 4 + count a ≤ n
-count-there a n = go (sizeOf a)
-  where
-    go : (s : Option ℕ) → isSize s (n - 5) ≡ true → 5 ≤ n → 4 + Option·getD s 0 ≤ n
-    go none h k = omega arith
-    go (some width) h k = omega (arith, eqb-true (n - 5) width h)
-
-pub number-told : {a known : Answer} → a ≡ known → (body : List ℕ) {n : ℕ} → n ≡ big (take (count known) (drop 4 body))
-    → n ≡ big (take (count a) (drop 4 body))
-number-told is body f = rw is f
+ofData q a payload bit7 = withBit7 (inOrder (valueChecks (replyTo q (big payload))) (gotBy (sizeOf a) q payload)) bit7
 
 -- all forms but a text are numbers of the table's length
-numbered : (a : Answer) → OneOf (0 ∷ 1 ∷ 2 ∷ 3 ∷ 4 ∷ 5 ∷ 6 ∷ []) (tagOf answer-type.the-type a) → sizeOf a ≡ some (count a)
-numbered answer.Nothing o = refl
-numbered answer.Float o = refl
-numbered answer.U16 o = refl
-numbered answer.U32 o = refl
-numbered answer.Validity o = refl
-numbered answer.Address o = refl
-numbered answer.Baud o = refl
+numbered : (a : Answer) → OneOf (0 ∷ 1 ∷ 2 ∷ 3 ∷ 4 ∷ 5 ∷ 6 ∷ []) (tagOf answer-type.the-type a) → (width : ℕ) × (sizeOf a ≡ some width)
+numbered answer.Nothing o = (0, refl)
+numbered answer.Float o = (4, refl)
+numbered answer.U16 o = (2, refl)
+numbered answer.U32 o = (4, refl)
+numbered answer.Validity o = (1, refl)
+numbered answer.Address o = (1, refl)
+numbered answer.Baud o = (4, refl)
 numbered answer.Text o = absurd (apart (0 ∷ 1 ∷ 2 ∷ 3 ∷ 4 ∷ 5 ∷ 6 ∷ []) _ 7 o refl refl)
 
-pub number-from : (q : Request) (a : Answer) (body : List ℕ) (bit7 : Bool)
-    → OneOf (0 ∷ 1 ∷ 2 ∷ 3 ∷ 4 ∷ 5 ∷ 6 ∷ []) (tagOf answer-type.the-type a) → isSize (sizeOf a) (length body - 5) ≡ true
-    → {n : ℕ} → n ≡ big (take (count a) (drop 4 body)) → {r : Answered Got × Option Bool} → r ≡ ofNumber q n bit7 → r ≡ ofData q a body bit7
-unfolding dataIn
-number-from q a body bit7 o h {n} f g =
-    let s = numbered a o in
-    let w : length body - 5 ≡ count a = eqb-true _ _ (sym (ap (λ (x : Option ℕ). isSize x (length body - 5)) s) ∙ h) in
-    let d : n ≡ big (take (length body - 5) (drop 4 body)) = rw w f in
-    rw (s, ← d) g
+module _ (q : Request) (a : Answer) (payload : List ℕ) (bit7 : Bool) where
+  pub text-read : (n : ℕ) → a ≡ answer.Text → a ≡ row q .answer → n ≡ length (textIn payload) → (served (text 4 n), some bit7) ≡ ofData q a payload bit7
+  unfolding contentFrom
+  text-read n is e f =
+      let c : contentOf (replyTo q (big payload)) ≡ content.Text = tabled q (big payload) .carried ∙ ap (λ (x : Answer). contentFrom x (big payload)) (sym e ∙ is) in
+      rw (c, is, f)
 
-pub text-from : (q : Request) (a : Answer) (body : List ℕ) (bit7 : Bool) (n : ℕ) → a ≡ answer.Text → a ≡ row q .answer
-    → n ≡ length (textIn (take (length body - 1 - 4) (drop 4 body)))
-    → (served (text 4 n), some bit7) ≡ ofData q a body bit7
-unfolding dataIn contentFrom
-text-from q a body bit7 n is e f =
+  module _ {r : Reply} (is : r ≡ replyTo q (big payload)) {c : Content} (carried : c ≡ contentOf r) {x : Bool} (range : x ≡ outOfRange c) where
+    pub data-12 : x ≡ true → (refused (number 12), none) ≡ ofData q a payload bit7
+    data-12 h = rw (← is, ← carried, ← range, h)
+
+    module _ (in-range : x ≡ false) {y : Bool} (float : y ≡ badFloat c) where
+      pub data-13 : y ≡ true → (refused (number 13), none) ≡ ofData q a payload bit7
+      data-13 h = rw (← is, ← carried, ← range, in-range, ← float, h)
+
+      pub data-value : OneOf (0 ∷ 1 ∷ 2 ∷ 3 ∷ 4 ∷ 5 ∷ 6 ∷ []) (tagOf answer-type.the-type a) → y ≡ false
+          → (served (value r), some bit7) ≡ ofData q a payload bit7
+      data-value o h = rw (numbered a o .1, ← is, ← carried, ← range, in-range, ← float, h)
+
+-- the data as they are lent
+pub data-lent : (body : List ℕ) → take (length body - 1 - 4) (drop 4 body) ≡ dataIn body
+unfolding dataIn
+data-lent body =
     let m : length body - 1 - 4 ≡ length body - 5 = omega arith in
-    let c : contentOf (replyTo q (big (dataIn body))) ≡ content.Text = tabled q (big (dataIn body)) .carried ∙ ap (λ (x : Answer). contentFrom x (big (dataIn body))) (sym e ∙ is) in
-    rw (c, is, f, m)
+    ap (λ (n : ℕ). take n (drop 4 body)) m
 
 -- ---- the whole
 -- no number of these checks is k
-abbrev pub Without : ℕ → List (Bool × Numbered) → Type 0
-Without k [] = Unit {0}
-Without k (check ∷ checks) = (eqb (numberIn (check .1)) k ≡ false) × Without k checks
-
 pub not-number : {A : Type 0} (k : ℕ) (checks : List (Bool × Numbered)) (a : A) {n : Numbered} → Without k checks → inOrder checks a ≡ refused n
     → eqb (numberIn n) k ≡ false
 not-number k [] a h e = never e
@@ -183,13 +157,15 @@ module _ (address : ℕ) (q : Request) (body : List ℕ) where
                   rw e
 
               module _ (no-error : codeIn body ≡ 0) where
-                pub size-settled : isSize (sizeOf (r .answer)) (length body - 5) ≡ true
+                pub size-settled : isSize (sizeOf (r .answer)) (length (take (length body - 1 - 4) (drop 4 body))) ≡ true
                 size-settled =
                     let k = lengths address r body (sym belongs ∙ own) in
                     let l : isSize (sizeOf (r .answer)) (lengthIn body) ≡ true = not-false _ (rw (eq-eqb _ _ no-error) at k) in
-                    rw (body-bounds .1) at l
+                    let n : length (take (length body - 1 - 4) (drop 4 body)) ≡ lengthIn body =
+                    omega (arith, length-take (length body - 1 - 4) (drop 4 body), length-drop 4 body, body-bounds .1) in
+                    rw n l
 
-                pub data-read : {o : Answered Got × Option Bool} → o ≡ ofData q (r .answer) body (bit7In body) → o ≡ readReply address q body
+                pub data-read : {o : Answered Got × Option Bool} → o ≡ ofData q (r .answer) (dataIn body) (bit7In body) → o ≡ readReply address q body
                 unfolding readReply
                 data-read f =
                     let e : answerTo address q body ≡ inOrder (valueChecks (replyTo q (big (dataIn body)))) (gotBy (sizeOf (r .answer)) q (dataIn body)) =

@@ -1,18 +1,11 @@
 -- Whether a reply belongs to its request, and the number of its field: each answer from the tests that lead to it. Assumes nothing.
-use mathlib.Core.Path.{_≡_, sym, ap, _∙_}
+use mathlib.Core.Path.{_≡_}
 use mathlib.Core.Bool.{Bool, true, not}
 use mathlib.Core.List.{List}
-use Prim.Native.Nat.{ℕ, _+_, _%_, _≤_}
+use Prim.Native.Nat.{ℕ, _%_}
 use lib.Dec.{eqb}
-use lib.ListN.{length, getD, take, drop}
+use lib.ListN.{getD}
 use borrow.Author.Tests.{eq-eqb, ne-eqb}
-use Rattle.refusal.specs.declared.Refusal.{Refusal}
-use Rattle.refusal.specs.Refusals.{Answered, served}
-use Rattle.refusal.proofs.Order.{refused-not-served}
-use Rattle.payload.specs.declared.fields.Field.{Field}
-use Rattle.payload.specs.declared.fields.Field.the-variants.{Value, Refused}
-use Rattle.payload.specs.Field.{big, fieldAt, paperField}
-use Rattle.payload.proofs.At.{field-served}
 use Rattle.sfc6.specs.declared.Row.{Row}
 use Rattle.replies.specs.Reader.{sizeOf, isSize, foreign}
 
@@ -39,15 +32,3 @@ module _ (address : ℕ) (r : Row) (body : List ℕ) where
         pub table-length : {fits : Bool} → getD body 2 0 % 128 ≡ 0 → fits ≡ isSize (sizeOf (r .answer)) (getD body 3 0) → not fits ≡ foreign address r body
         unfolding foreign
         table-length h e = rw e (simp (ne-eqb _ _ one, eq-eqb _ _ same-address, eq-eqb _ _ same-command, eq-eqb _ _ h))
-
--- a field inside the payload is never refused, and has the number of its bytes
-module _ (payload : List ℕ) (place width : ℕ) (inside : place + width ≤ length payload) {f : Field} (is : paperField f ≡ fieldAt payload place width) where
-  pub field-number : {n next : ℕ} → f ≡ Value n next → n ≡ big (take width (drop place payload))
-  field-number {n} {next} e =
-      let p : _≡_ {A = Answered (ℕ × ℕ)} (served (n, next)) (served (big (take width (drop place payload)), place + width)) =
-      sym (ap paperField e) ∙ is ∙ field-served payload place width inside in
-      let q : _≡_ {A = ℕ × ℕ} (n, next) (big (take width (drop place payload)), place + width) = cc in
-      ap (λ (x : ℕ × ℕ). x .0) q
-
-  pub field-never : {A : Type 0} {why : Refusal} → f ≡ Refused why → A
-  field-never e = absurd (refused-not-served (sym (ap paperField e) ∙ is ∙ field-served payload place width inside))

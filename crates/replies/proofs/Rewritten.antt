@@ -13,6 +13,7 @@ use borrow.Author.Tests.{lt-ltb, le-ltb, leb-true, leb-false, eqb-true, ltb-fals
 use Rattle.refusal.specs.Refusals.{Numbered, number, _carrying_, numberIn, Answered, served, refused, inOrder}
 use Rattle.refusal.specs.Room.{emit, lay}
 use Rattle.refusal.proofs.Order.{passed}
+use Rattle.refusal.proofs.Deciding.{Without}
 use Rattle.shdlc.specs.declared.Kind.the-variants as kind
 use Rattle.shdlc.specs.Body.{bodyChecks, checkBody}
 use Rattle.shdlc.specs.Frame.{withChecksum, frameOf}
@@ -38,7 +39,7 @@ use Rattle.replies.proofs.Carried.{or-false}
 use Rattle.replies.proofs.Taking.{same-kind}
 use Rattle.replies.proofs.Text.{text-clean, text-first, text-no-longer}
 use Rattle.replies.proofs.Writing.{frame}
-use Rattle.replies.proofs.Answers.{Without, not-number, got, lengths}
+use Rattle.replies.proofs.Answers.{not-number, got, lengths}
 use Rattle.replies.proofs.Table.{contentFrom, tabled}
 use Rattle.replies.proofs.Kept.{empty, again}
 use Rattle.replies.proofs.Written.{Accepted, to-write}

@@ -11,6 +11,7 @@ use Rattle.refusal.specs.declared.Refusal.{Refusal}
 use Rattle.refusal.specs.Refusals.{Numbered, number, Answered, served, refused, paper, inOrder}
 use Rattle.shdlc.specs.declared.Checked.{Checked}
 use Rattle.shdlc.specs.declared.Checked.the-variants as checked
+use Rattle.refusal.specs.Room.{lay}
 use Rattle.shdlc.specs.Frame.{frameOf, writeFrame}
 use Rattle.shdlc.specs.Paper.{writtenOf}
 use Rattle.sfc6.specs.declared.Request.{Request}

@@ -227,8 +227,8 @@ module _ (address : ℕ) (q : Request) (r : Reply) (words : List ℕ) (bit7 : Bo
       let no-code : codeIn body ≡ 0 = code-there ∙ c in
       let fits : isSize (sizeOf (row q .answer)) (lengthIn body) ≡ true = b .size in
       let f = own (rw (eq-eqb _ _ no-code, fits)) in
-      let read : beside (comesBack r words (contentOf r)) bit7 ≡ ofData q (row q .answer) body (bit7In body) =
-      subst (λ (t : Bool). beside (comesBack r words (contentOf r)) bit7 ≡ ofData q (row q .answer) body t) (sym bit7-there)
+      let read : beside (comesBack r words (contentOf r)) bit7 ≡ ofData q (row q .answer) (dataIn body) (bit7In body) =
+      subst (λ (t : Bool). beside (comesBack r words (contentOf r)) bit7 ≡ ofData q (row q .answer) (dataIn body) t) (sym bit7-there)
       (read-as q r (dataIn body) bit7 (a .in-range) (a .good-float) (ap (λ (d : List ℕ). replyTo q (big d)) data-there ∙ b .same)
       (ap (λ (d : List ℕ). served (gotBy (sizeOf (row q .answer)) q d)) data-there ∙ b .got)) in
       sym (data-read address q body {c = checked.Good} (sym (a .request-good)) refl {d = checked.Good} (sym good) refl {r = row q} refl {x = false} f refl no-code read)

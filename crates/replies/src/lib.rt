@@ -1,5 +1,7 @@
 // Replies of the SFC6 family, written and read.
-use payload::Field;
+use payload::FieldU16;
+use payload::FieldU32;
+use payload::FieldU8;
 use payload::Placed;
 use payload::Width;
 use refusal::Refusal;
@@ -12,19 +14,18 @@ use shdlc::Written;
 ghost use mathlib.Core.Path.{_≡_};
 ghost use mathlib.Core.Bool.{true, false, cond, not};
 ghost use mathlib.Core.List.{[], _∷_, _++_, foldr};
-ghost use mathlib.Core.Option.{Option·getD};
 ghost use Prim.Native.Nat.{_+_, _-_, _^_, _≤_, _<_, min};
 ghost use lib.Dec.{ltb};
 ghost use lib.ListN.{length, take, drop};
 ghost use Rattle.refusal.specs.Refusals.{number, inOrder};
+ghost use Rattle.refusal.specs.Room.{lay};
 ghost use Rattle.shdlc.specs.Frame.{frameOf};
 ghost use Rattle.shdlc.specs.Paper.{paperWritten};
 ghost use Rattle.payload.specs.Field.{big, bigEndian, bytesIn};
 ghost use Rattle.sfc6.specs.Commands.{row};
-ghost use Rattle.sfc6.specs.Requests.{lay};
 ghost use Rattle.replies.specs.Replies.{bitsOf, readingOf, replyTo, suits, contentOf, outOfRange, notFinite, badFloat};
 ghost use Rattle.replies.specs.Writer.{badText, dataOf, stateOf, bodyOf, frameFor, writeReply};
-ghost use Rattle.replies.specs.Reader.{dataIn, sizeOf, isSize, foreign, textIn, value, gotBy, valueChecks, withBit7, readReply};
+ghost use Rattle.replies.specs.Reader.{sizeOf, isSize, foreign, textIn, gotBy, valueChecks, withBit7, readReply};
 ghost use Rattle.replies.specs.Paper.{paperTaken, paperRead};
 
 // A float of a reply: a finite value, or one of three codings.
@@ -109,48 +110,6 @@ pub fn reading_of(bits: u32) -> Reading
     }
 }
 
-// A number cut to the largest that two bytes hold, and one byte. Data of the table's length are never cut.
-pub fn capped_u16(n: u32) -> u16
-    ensures { λ r. ⌜ r ≡ min n 65535 ⌝ }
-{
-    if n < 65535 { n as u16 } else { 65535 }
-}
-
-pub fn capped_u8(n: u32) -> u8
-    ensures { λ r. ⌜ r ≡ min n 255 ⌝ }
-{
-    if n < 255 { n as u8 } else { 255 }
-}
-
-// The reply that answers a request, of the number that its data stand for.
-fn reply_to(request: Request, n: u32) -> Reply
-    ensures { λ r. ⌜ r ≡ replyTo request n ⌝ }
-{
-    match request {
-        Request::GetSetpoint => Reply::Setpoint(reading_of(n)),
-        Request::MeasuredValue => Reply::MeasuredValue(reading_of(n)),
-        Request::GetGain => Reply::Gain(reading_of(n)),
-        Request::GetInitStep => Reply::InitStep(reading_of(n)),
-        Request::RawFlow => Reply::RawFlow(capped_u16(n)),
-        Request::RawConductivity => Reply::RawConductivity(capped_u16(n)),
-        Request::Temperature => Reply::Temperature(reading_of(n)),
-        Request::NumberOfCalibrations => Reply::NumberOfCalibrations(n),
-        Request::Validity(_) => Reply::Validity(capped_u8(n)),
-        Request::FullScale => Reply::FullScale(reading_of(n)),
-        Request::GetCalibration => Reply::Calibration(n),
-        Request::GetAddress => Reply::Address(capped_u8(n)),
-        Request::GetBaud => Reply::Baud(n),
-        Request::ProductType => Reply::ProductType,
-        Request::SetSetpoint(_)
-        | Request::SetGain(_)
-        | Request::SetInitStep(_)
-        | Request::SetCalibration(_)
-        | Request::VolatileCalibration(_)
-        | Request::SetAddress(_)
-        | Request::SetBaud(_) => Reply::Acknowledged,
-    }
-}
-
 // What a reply carries.
 fn content_of(reply: Reply) -> Content
     ensures { λ r. ⌜ r ≡ contentOf reply ⌝ }
@@ -182,7 +141,8 @@ fn out_of_range(content: Content) -> bool
     match content {
         Content::Nothing => false,
         Content::Float(_) => false,
-        Content::U16(_) => false,
+        // Never, by its type.
+        Content::U16(n) => n > 65535,
         Content::U32(_) => false,
         Content::Validity(v) => v > 1,
         Content::Address(a) => a > 254,
@@ -533,22 +493,84 @@ fn is_foreign(address: u8, row: Row, body: &[u8]) -> bool
     !is_size(answer, body[3])
 }
 
-// The number that the data start with.
-fn number_in(body: &[u8], width: Width) -> u32
-    requires { ⌜ 4 + bytesIn width ≤ length (now body) ⌝ }
-    ensures { λ r. ⌜ r ≡ big (take (bytesIn width) (drop 4 (now (body .entry)))) ⌝ }
+// Data of one byte, of two and of four, each taken by a reader.
+fn byte(payload: &[u8]) -> u8
+    requires { ⌜ length (now payload) ≡ 1 ⌝ }
+    ensures { λ r. ⌜ r ≡ big (now (payload .entry)) ⌝ }
 {
-    match payload::number_at(body, 4, width) {
-        Field::Value(n, _) => n,
-        Field::Refused(_) => 0,
+    match payload::first_u8(payload) {
+        FieldU8::Value(n) => n,
+        FieldU8::Refused(_) => 0,
     }
 }
 
-// The reply of a number, or 12, 13.
-fn read_number(request: Request, n: u32, bit7: bool) -> ReadReply
-    ensures { λ r. ⌜ paperRead r ≡ withBit7 (inOrder (valueChecks (replyTo request n)) (value (replyTo request n))) bit7 ⌝ }
+fn short(payload: &[u8]) -> u16
+    requires { ⌜ length (now payload) ≡ 2 ⌝ }
+    ensures { λ r. ⌜ r ≡ big (now (payload .entry)) ⌝ }
 {
-    let reply = reply_to(request, n);
+    match payload::first_u16(payload) {
+        FieldU16::Value(n) => n,
+        FieldU16::Refused(_) => 0,
+    }
+}
+
+fn long(payload: &[u8]) -> u32
+    requires { ⌜ length (now payload) ≡ 4 ⌝ }
+    ensures { λ r. ⌜ r ≡ big (now (payload .entry)) ⌝ }
+{
+    match payload::first_u32(payload) {
+        FieldU32::Value(n) => n,
+        FieldU32::Refused(_) => 0,
+    }
+}
+
+// Data of four bytes as a reading.
+fn float_in(payload: &[u8]) -> Reading
+    requires { ⌜ length (now payload) ≡ 4 ⌝ }
+    ensures { λ r. ⌜ r ≡ readingOf (big (now (payload .entry))) ⌝ }
+{
+    reading_of(long(payload))
+}
+
+// The reply that answers a request, of its data, whose length is the table's.
+fn reply_in(request: Request, payload: &[u8]) -> Reply
+    requires { ⌜ isSize (sizeOf (row request .answer)) (length (now payload)) ≡ true ⌝ }
+    ensures { λ r. ⌜ r ≡ replyTo request (big (now (payload .entry))) ⌝ }
+{
+    match request {
+        Request::GetSetpoint => Reply::Setpoint(float_in(payload)),
+        Request::MeasuredValue => Reply::MeasuredValue(float_in(payload)),
+        Request::GetGain => Reply::Gain(float_in(payload)),
+        Request::GetInitStep => Reply::InitStep(float_in(payload)),
+        Request::RawFlow => Reply::RawFlow(short(payload)),
+        Request::RawConductivity => Reply::RawConductivity(short(payload)),
+        Request::Temperature => Reply::Temperature(float_in(payload)),
+        Request::NumberOfCalibrations => Reply::NumberOfCalibrations(long(payload)),
+        Request::Validity(_) => Reply::Validity(byte(payload)),
+        Request::FullScale => Reply::FullScale(float_in(payload)),
+        Request::GetCalibration => Reply::Calibration(long(payload)),
+        Request::GetAddress => Reply::Address(byte(payload)),
+        Request::GetBaud => Reply::Baud(long(payload)),
+        Request::ProductType => Reply::ProductType,
+        Request::SetSetpoint(_)
+        | Request::SetGain(_)
+        | Request::SetInitStep(_)
+        | Request::SetCalibration(_)
+        | Request::VolatileCalibration(_)
+        | Request::SetAddress(_)
+        | Request::SetBaud(_) => Reply::Acknowledged,
+    }
+}
+
+// What the data of a reply stand for, their length being the table's: a text by its place in the body, else the reply, or 12, 13.
+fn read_data(request: Request, answer: Answer, payload: &[u8], bit7: bool) -> ReadReply
+    requires { ⌜ (answer ≡ row request .answer) × (isSize (sizeOf answer) (length (now payload)) ≡ true) ⌝ }
+    ensures { λ r. ⌜ paperRead r ≡ withBit7 (inOrder (valueChecks (replyTo request (big (now (payload .entry))))) (gotBy (sizeOf answer) request (now (payload .entry)))) bit7 ⌝ }
+{
+    if let Answer::Text = answer {
+        return ReadReply::Text(4, text_len(payload), bit7);
+    }
+    let reply = reply_in(request, payload);
     let content = content_of(reply);
     if out_of_range(content) {
         return ReadReply::Refused(Refusal::OutOfRange);
@@ -557,36 +579,6 @@ fn read_number(request: Request, n: u32, bit7: bool) -> ReadReply
         return ReadReply::Refused(Refusal::BadFloat);
     }
     ReadReply::Value(reply, bit7)
-}
-
-// The number that the data stand for; 0 where they are none or a text.
-fn number_of(answer: Answer, body: &[u8]) -> u32
-    requires { ⌜ 4 + Option·getD (sizeOf answer) 0 ≤ length (now body) ⌝ }
-    ensures { λ r. ⌜ r ≡ big (take (Option·getD (sizeOf answer) 0) (drop 4 (now (body .entry)))) ⌝ }
-{
-    match answer {
-        Answer::Nothing => 0,
-        Answer::Float => number_in(body, Width::Four),
-        Answer::U16 => number_in(body, Width::Two),
-        Answer::U32 => number_in(body, Width::Four),
-        Answer::Validity => number_in(body, Width::One),
-        Answer::Address => number_in(body, Width::One),
-        Answer::Baud => number_in(body, Width::Four),
-        Answer::Text => 0,
-    }
-}
-
-// What the data of a reply stand for, once their length is settled. `read_number` is called at one place, so that the compiler inlines
-// it.
-fn read_data(request: Request, answer: Answer, body: &[u8], bit7: bool) -> ReadReply
-    requires { ⌜ (answer ≡ row request .answer) × (isSize (sizeOf answer) (length (now body) - 5) ≡ true) × (5 ≤ length (now body)) ⌝ }
-    ensures { λ r. ⌜ paperRead r ≡ withBit7 (inOrder (valueChecks (replyTo request (big (dataIn (now (body .entry)))))) (gotBy (sizeOf answer) request (dataIn (now (body .entry))))) bit7 ⌝ }
-{
-    if let Answer::Text = answer {
-        let end = body.len() - 1;
-        return ReadReply::Text(4, text_len(&body[4..end]), bit7);
-    }
-    read_number(request, number_of(answer, body), bit7)
 }
 
 // Reads the unstuffed body of the reply to a request, checksum included.
@@ -610,5 +602,6 @@ pub fn read_reply(address: u8, request: Request, body: &[u8]) -> ReadReply
         return ReadReply::Failed(code, bit7);
     }
     let answer = row.answer;
-    read_data(request, answer, body, bit7)
+    let end = body.len() - 1;
+    read_data(request, answer, &body[4..end], bit7)
 }

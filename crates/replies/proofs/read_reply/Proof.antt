@@ -64,7 +64,6 @@ read-data-requires c κs =
       ap (λ (r : Row). r .answer) (f .before .row-of .ensures),
       size-settled (a .address) (a .request) (a .body .now) (asked e .check-request .ensures) (bodied e .before .enum-told .given .1)
           (bodied e .check-body .ensures) (e .enum-told2 .given .1) (f .before .row-of .ensures) (f .is-foreign .ensures) (g .if1 .left) (c .if2 .left),
-      bounds e .0,
     )
 
 returns-5 : tie.Need-returns-5
@@ -75,7 +74,7 @@ returns-5 c =
     let e = f .before .before in
     let a = start e .args in
     data-read (a .address) (a .request) (a .body .now) (asked e .check-request .ensures) (bodied e .before .enum-told .given .1) (bodied e .check-body .ensures)
-    (e .enum-told2 .given .1) (f .before .row-of .ensures) (f .is-foreign .ensures) (g .if1 .left) (h .if2 .left) (c .read-data .ensures)
+    (e .enum-told2 .given .1) (f .before .row-of .ensures) (f .is-foreign .ensures) (g .if1 .left) (h .if2 .left) (data-in _ (c .read-data .ensures))
 
 pub read-reply-spec : {M : Type 1} → statement M
 read-reply-spec =
