@@ -7,7 +7,7 @@ use native.Mathlib.Omega.{arith}
 use lib.Arith.{digits-lt, digits-div, mod-mul}
 use lib.ListN.{length, getD, take, drop, length-append, length-drop}
 use lib.Pow.{pow-add}
-use lib.Seq.{take-add, drop-drop, drop-cons, length-take-le}
+use lib.Seq.{take-add, drop-drop, drop-cons, length-take-le, getD-drop}
 use Rattle.payload.specs.Field.{big, bigEndian, Bytes}
 
 power-pos : (count : ℕ) → 0 < 256 ^ count
@@ -23,6 +23,16 @@ unfolding bigEndian
 big-endian-bytes zero n i = omega arith
 big-endian-bytes (suc count) n zero = mod-lt _ (omega arith)
 big-endian-bytes (suc count) n (suc i) = big-endian-bytes count n i
+
+-- a part of bytes is bytes
+pub take-bytes : (count : ℕ) (bytes : List ℕ) → Bytes bytes → Bytes (take count bytes)
+take-bytes zero bytes h i = omega arith
+take-bytes (suc count) [] h i = omega arith
+take-bytes (suc count) (b ∷ bytes) h zero = h 0
+take-bytes (suc count) (b ∷ bytes) h (suc i) = take-bytes count bytes (λ j. h (suc j)) i
+
+pub drop-bytes : (count : ℕ) (bytes : List ℕ) → Bytes bytes → Bytes (drop count bytes)
+drop-bytes count bytes h i = rw (getD-drop count bytes i 0) (h (count + i))
 
 -- written and read: what of the number the bytes have room for
 pub big-of-big-endian-mod : (count n : ℕ) → big (bigEndian count n) ≡ n % 256 ^ count

@@ -39,6 +39,7 @@ use Rattle.payload.proofs.Reader as T
 use Rattle.payload.proofs.Reader.Laws as T′
 use Rattle.payload.proofs.reader_of as make
 use Rattle.payload.proofs.Taken.{α, B}
+
 -- the signature, and the contract of a function that gives what a definition finds in the payload
 abbrev pub signature : RattleType → Signature
 signature F = record { lifetimes = 1; outlives = []; params = SliceRef 0 tt u8 tt ∷ []; result = plain (λ κs. F) }

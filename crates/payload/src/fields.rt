@@ -1,4 +1,4 @@
-// The types of a field. They stand apart from the functions: one module takes no two names that differ only in case.
+// The types of a field.
 use refusal::Refusal;
 
 // How many bytes a field takes.

@@ -9,9 +9,9 @@ ghost use Rattle.payload.specs.Field.{big, bigEndian, bytesIn, takenAt, 
 
 mod fields;
 
+pub use fields::FieldU8;
 pub use fields::FieldU16;
 pub use fields::FieldU32;
-pub use fields::FieldU8;
 pub use fields::Placed;
 pub use fields::Width;
 
@@ -26,19 +26,6 @@ fn bytes_in(width: Width) -> usize
     }
 }
 
-// A number with room above it, so that another can stand below.
-fn byte_below(b: u8) -> u16
-    ensures { λ r. ⌜ r ≡ b ⌝ }
-{
-    b as u16
-}
-
-fn half_below(n: u16) -> u32
-    ensures { λ r. ⌜ r ≡ n ⌝ }
-{
-    n as u32
-}
-
 // The number of one byte, of two and of four at a place. The last two are made of halves, not in a loop: they compile to one load.
 fn one(payload: &[u8], place: usize) -> u8
     requires { ⌜ place + 1 ≤ length (now payload) ⌝ }
@@ -51,8 +38,8 @@ fn two(payload: &[u8], place: usize) -> u16
     requires { ⌜ place + 2 ≤ length (now payload) ⌝ }
     ensures { λ r. ⌜ r ≡ big (take 2 (drop place (now (payload .entry)))) ⌝ }
 {
-    let high = byte_below(one(payload, place));
-    let low = byte_below(one(payload, place + 1));
+    let high = one(payload, place) as u16;
+    let low = one(payload, place + 1) as u16;
     high * 0x100 + low
 }
 
@@ -60,8 +47,8 @@ fn four(payload: &[u8], place: usize) -> u32
     requires { ⌜ place + 4 ≤ length (now payload) ⌝ }
     ensures { λ r. ⌜ r ≡ big (take 4 (drop place (now (payload .entry)))) ⌝ }
 {
-    let high = half_below(two(payload, place));
-    let low = half_below(two(payload, place + 2));
+    let high = two(payload, place) as u32;
+    let low = two(payload, place + 2) as u32;
     high * 0x10000 + low
 }
 
@@ -112,7 +99,8 @@ pub fn next_place(payload: &[u8], place: usize, width: Width) -> usize
     if past_end(payload, place, width) {
         return place;
     }
-    place + bytes_in(width)
+    let size = bytes_in(width);
+    place + size
 }
 
 // The largest number of a width.
