@@ -22,7 +22,7 @@ use denote.RattleType.{RattleType, owns}
 use denote.Laws.{Is}
 use denote.Memory.{pointee}
 use denote.Builtin.{u8, SliceRef}
-use denote.Ref.{RefT, NamedLft, now}
+use denote.Ref.{RefT, now}
 use denote.Signature.{Signature, plain}
 use denote.Slice.{sliceVal, ShrSlice, slice-vals, shr-slice-tells, shr-slice-lawful, shr-slice-copy}
 use denote.Steps.{only, nothing}

@@ -33,7 +33,7 @@ use denote.Plain.{uint-makes, uint-lawful}
 use denote.Builtin.{u8, usize, RefMutOf, SliceRef}
 use denote.Ref.{RefT, NamedLft, MutRef, ptr-vals, mut-tells, now}
 use denote.Signature.{Signature, Slot, plain, namedLft}
-use denote.Slice.{sliceVal, sliceTy, ShrSlice}
+use denote.Slice.{sliceVal, sliceTy}
 use denote.Steps.{only, opens, closes, owned, peeks, heard, nothing}
 use denote.Enum.Laws as EL
 use denote.Struct.Declared.{Declared}

@@ -1,5 +1,5 @@
--- `payload::reader_of` meets its contract: a walk of its MIR, by hand. A `Reader` is made of the slice passed and 0, in the result's local.
--- A `&[u8]` is Copy, so what it owns is had twice: once for src at exit, and once inside the result, beside the facts of at.
+-- `payload::reader_of` meets its contract: a walk of its MIR, by hand. A reader is made of the slice passed and 0, in the result's local.
+-- A `&[u8]` is Copy, so what it owns is had twice: once for the payload at exit, and once inside the result, beside the facts of the place.
 -- Assumes nothing.
 use mathlib.Core.Path.{refl}
 use Prim.Native.Nat.{ℕ}

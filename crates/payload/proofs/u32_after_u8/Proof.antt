@@ -24,7 +24,7 @@ use denote.RattleType.{RattleType}
 use denote.Laws.{Is, shows}
 use denote.Builtin.{u8}
 use denote.Enum.Laws as EL
-use denote.Ref.{RefT, now}
+use denote.Ref.{now}
 use denote.Slice.{shr-slice-lawful}
 use denote.Steps.{peeks, heard}
 use denote.Triple.Statement.{Triple}
