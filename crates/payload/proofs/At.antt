@@ -17,7 +17,7 @@ use Rattle.payload.specs.declared.fields.Placed.the-variants.{Next, Refu
 use Rattle.refusal.specs.Room.{overlay}
 use Rattle.refusal.proofs.Room.{overlay-then}
 use Rattle.payload.specs.Field.{big, bigEndian, Bytes, bytesIn, takenAt, putAt, paperPlaced}
-use Rattle.payload.proofs.Big.{take-bytes, drop-bytes, big-lt, length-big-endian, big-of-big-endian, big-endian-split}
+use Rattle.payload.proofs.Big.{length-big-endian, big-of-big-endian, big-endian-split}
 
 -- what holds at a width that is known
 pub at-width : {A : Type 0} (f : ℕ → A) {width known : Width} {a : A} → width ≡ known → a ≡ f (bytesIn known) → a ≡ f (bytesIn width)
@@ -44,26 +44,6 @@ module _ (payload : List ℕ) (place width : ℕ) where
       → takenAt payload place width ≡ (served (big (take width (drop place payload))), place + width)
   within is e = taken-served (fits is e)
 
--- a field inside the payload is never refused, has the number of its bytes, and is followed by the place after them
-module _ (payload : List ℕ) (place width : ℕ) (inside : place + width ≤ length payload) where
-  pub taken-number : {n : ℕ} → served n ≡ takenAt payload place width .0 → n ≡ big (take width (drop place payload))
-  taken-number {n} is =
-      let e : served n ≡ served (big (take width (drop place payload))) = is ∙ ap (λ (o : Answered ℕ × ℕ). o .0) (taken-served payload place width inside) in
-      cc
-
-  pub taken-never : {A : Type 0} {why : Numbered} → refused why ≡ takenAt payload place width .0 → A
-  taken-never is = absurd (refused-not-served (is ∙ ap (λ (o : Answered ℕ × ℕ). o .0) (taken-served payload place width inside)))
-
-  pub taken-next : takenAt payload place width .1 ≡ place + width
-  taken-next = ap (λ (o : Answered ℕ × ℕ). o .1) (taken-served payload place width inside)
-
-  -- and its number fits its bytes
-  pub taken-lt : Bytes payload → big (take width (drop place payload)) < 256 ^ width
-  taken-lt bytes =
-      let long : width ≤ length (drop place payload) = simp length-drop (omega arith) in
-      subst (λ (n : ℕ). big (take width (drop place payload)) < 256 ^ n) (length-take-le width (drop place payload) long)
-      (big-lt (take width (drop place payload)) (take-bytes width (drop place payload) (drop-bytes place payload bytes)))
-
 -- the code's test subtracts
 subtracts : (t : Bool) (n size place : ℕ) → ltb (n - size) place ≡ t → size ≤ n → ltb (n - size) place ≡ ltb n (place + size)
 subtracts true n size place e h = e ∙ sym (lt-ltb n (place + size) (omega (arith, ltb-true (n - size) place e)))
@@ -83,11 +63,11 @@ taken-after payload e =
     ∙ ap (λ (l : List ℕ). served (big l)) (take-all 4 (drop 1 payload) (omega (arith, length-drop 1 payload)))
 
 -- what was taken, where that is known
-pub known-number : {n m : ℕ} {a b : Answered ℕ} → served n ≡ a → a ≡ b → b ≡ served m → n ≡ m
-known-number {n} {m} e f g = let h : served n ≡ served m = e ∙ f ∙ g in cc
+pub taken-number : {n m : ℕ} {a b : Answered ℕ} → served n ≡ a → a ≡ b → b ≡ served m → n ≡ m
+taken-number {n} {m} e f g = let h : served n ≡ served m = e ∙ f ∙ g in cc
 
-pub known-never : {A : Type 0} {n : Numbered} {m : ℕ} {a b : Answered ℕ} → refused n ≡ a → a ≡ b → b ≡ served m → A
-known-never e f g = absurd (refused-not-served (e ∙ f ∙ g))
+pub taken-never : {A : Type 0} {n : Numbered} {m : ℕ} {a b : Answered ℕ} → refused n ≡ a → a ≡ b → b ≡ served m → A
+taken-never e f g = absurd (refused-not-served (e ∙ f ∙ g))
 
 
 pub ends-past : (n size place width : ℕ) → size ≡ width → size ≤ n → ltb (n - size) place ≡ ltb n (place + width)

@@ -1,11 +1,10 @@
 -- When the writer of a reply refuses, and with which number. Assumes nothing.
-use mathlib.Core.Path.{_≡_, refl, sym, subst, _∙_}
-use mathlib.Core.Logic.{⊎-elim}
-use mathlib.Core.Bool.{Bool, true, false, cond, _||_}
+use mathlib.Core.Path.{_≡_, refl, sym, subst}
+use mathlib.Core.Bool.{Bool, true, false, not, _||_}
 use mathlib.Core.List.{List, [], _∷_, _++_}
 use Prim.Native.Nat.{ℕ, _≤_}
 use native.Mathlib.Omega.{arith}
-use lib.Dec.{ltb}
+use lib.Dec.{ltb, eqb}
 use lib.ListN.{length, length-append}
 use borrow.Author.Tests.{le-ltb, ltb-false}
 use Rattle.refusal.specs.Refusals.{Numbered, Answered, number, refused, inOrder}
@@ -19,7 +18,7 @@ use Rattle.sfc6.specs.Requests.{requestChecks}
 use Rattle.replies.specs.declared.Reply.{Reply}
 use Rattle.replies.specs.declared.Content.{Content}
 use Rattle.replies.specs.declared.Content.the-variants.{Nothing, Float, U16, U32, Validity, Address, Baud, Text, Error}
-use Rattle.replies.specs.Replies.{contentOf, outOfRange, badFloat}
+use Rattle.replies.specs.Replies.{suits, contentOf, outOfRange, badFloat}
 use Rattle.replies.specs.Writer.{badText, dataOf, replyChecks, frameFor, frameToWrite, writeReply}
 use Rattle.replies.proofs.Carried.{or-false}
 
@@ -38,6 +37,9 @@ data-short Text words h =
     le-ltb 255 (length (words ++ (0 ∷ []))) (omega (arith, length-append words (0 ∷ [])))
 data-short (Error code) words h = refl
 
+abbrev five : Bool → List (Bool × Numbered)
+five d = (d, number 5) ∷ []
+
 module _ (address : ℕ) (request : Request) (reply : Reply) (words : List ℕ) (bit7 : Bool) where
   abbrev checks : List (Bool × Numbered)
   checks = requestChecks address request ++ replyChecks address request reply words
@@ -49,16 +51,16 @@ module _ (address : ℕ) (request : Request) (reply : Reply) (words : List ℕ) 
   without-5 : frameToWrite address request reply words bit7 ≡ inOrder checks frame
   unfolding frameToWrite
   without-5 =
-      in-order-append (requestChecks address request) (replyChecks address request reply words ++ ((ltb 255 (length (dataOf (contentOf reply) words)), number 5) ∷ []))
+      in-order-append (requestChecks address request) (replyChecks address request reply words ++ five (ltb 255 (length (dataOf (contentOf reply) words))))
       (replyChecks address request reply words) frame
-      (go (outOfRange (contentOf reply)) (badText (contentOf reply) words) (data-short (contentOf reply) words))
+      (go (eqb address 255 || not (suits request reply)) (outOfRange (contentOf reply)) (badText (contentOf reply) words) (badFloat (contentOf reply))
+      (ltb 255 (length (dataOf (contentOf reply) words))) (data-short (contentOf reply) words))
     where
-      go : (x t : Bool) → (t ≡ false → ltb 255 (length (dataOf (contentOf reply) words)) ≡ false)
-          → inOrder ((_, number 14) ∷ (x || t, number 12) ∷ (badFloat (contentOf reply), number 13) ∷ (ltb 255 (length (dataOf (contentOf reply) words)), number 5) ∷ []) frame
-          ≡ inOrder ((_, number 14) ∷ (x || t, number 12) ∷ (badFloat (contentOf reply), number 13) ∷ []) frame
-      go true t h = refl
-      go false true h = refl
-      go false false h = rw (h refl)
+      go : (a x t f d : Bool) → (t ≡ false → d ≡ false)
+          → inOrder ((a, number 14) ∷ (x || t, number 12) ∷ (f, number 13) ∷ five d) frame ≡ inOrder ((a, number 14) ∷ (x || t, number 12) ∷ (f, number 13) ∷ []) frame
+      go a true t f d h = refl
+      go a false true f d h = refl
+      go a false false f d h = rw (h refl)
 
   pub reply-decides : (room : List ℕ) → Decides checks frame room (writeReply address request reply words bit7 room .0)
   unfolding writeReply

@@ -72,11 +72,15 @@ module _ (q : Request) (a : Answer) (payload : List ℕ) (bit7 : Bool) where
       data-value o h = rw (numbered a o .1, ← is, ← carried, ← range, in-range, ← float, h)
 
 -- the data as they are lent
-pub data-lent : (body : List ℕ) → take (length body - 1 - 4) (drop 4 body) ≡ dataIn body
+data-lent : (body : List ℕ) → take (length body - 1 - 4) (drop 4 body) ≡ dataIn body
 unfolding dataIn
 data-lent body =
     let m : length body - 1 - 4 ≡ length body - 5 = omega arith in
     ap (λ (n : ℕ). take n (drop 4 body)) m
+
+pub lent-read : (q : Request) (a : Answer) (body : List ℕ) (bit7 : Bool) {o : Answered Got × Option Bool}
+    → o ≡ ofData q a (take (length body - 1 - 4) (drop 4 body)) bit7 → o ≡ ofData q a (dataIn body) bit7
+lent-read q a body bit7 e = e ∙ ap (λ (d : List ℕ). ofData q a d bit7) (data-lent body)
 
 -- ---- the whole
 -- no number of these checks is k

@@ -21,12 +21,13 @@ use Rattle.shdlc.specs.Stuffing.{stuff}
 use Rattle.shdlc.specs.ReadBack.{closed}
 use Rattle.shdlc.proofs.Body.{Passes, passes, checked-body}
 use Rattle.payload.specs.Field.{big, bigEndian, Bytes}
+use Rattle.payload.proofs.Big.{take-bytes, drop-bytes}
 use Rattle.sfc6.specs.declared.Request.{Request}
 use Rattle.sfc6.specs.declared.Row.{Row}
 use Rattle.sfc6.specs.Commands.{row, member}
 use Rattle.sfc6.specs.Requests.{requestChecks, checkRequest}
 use Rattle.sfc6.specs.ReadBack.{Received}
-use Rattle.sfc6.proofs.Rewritten.{bytes-drop, bytes-take, received-body}
+use Rattle.sfc6.proofs.Rewritten.{received-body}
 use Rattle.sfc6.proofs.Order.{never, first-refuses, then-more, passes-or-refuses}
 use Rattle.replies.specs.declared.Reply.{Reply}
 use Rattle.replies.specs.declared.Reply.the-variants.{ProductType, DeviceError}
@@ -159,7 +160,7 @@ module _ (address : ℕ) (q : Request) (body : List ℕ) (bit7 : Bool) {answer :
 
   payload-bytes : Bytes body → Bytes (dataIn body)
   unfolding dataIn
-  payload-bytes b = bytes-take (length body - 5) (drop 4 body) (bytes-drop 4 body b)
+  payload-bytes b = take-bytes (length body - 5) (drop 4 body) (drop-bytes 4 body b)
 
   -- a reply with the same data and the same state is written as the same bytes
   same-bytes : Bytes body → (r : Reply) (words room : List ℕ) → Accepted address q r words → dataOf (contentOf r) words ≡ dataIn body

@@ -7,7 +7,6 @@ use Prim.Native.Nat.{ℕ, zero, suc, _+_, _-_, _^_, _≤_, _<_}
 use native.Mathlib.Omega.{arith}
 use lib.Dec.{T, eqb}
 use lib.ListN.{length, take, drop, getD, length-append, length-take, length-drop}
-use lib.Seq.{getD-drop}
 use lib.Ieee.{Float, nan, inf, fin, binary32, isNan, toBits, ofBits}
 use lib.Ieee.Bits.{toBits-ofBits}
 use borrow.Author.Tests.{eqb-true}
@@ -23,7 +22,7 @@ use Rattle.shdlc.proofs.Body.{passes, checked-body}
 use Rattle.shdlc.proofs.Stuffing.{each-byte}
 use Rattle.shdlc.proofs.Stream.{one-wire}
 use Rattle.payload.specs.Field.{big, bigEndian, Bytes}
-use Rattle.payload.proofs.Big.{big-lt, big-endian-of-big}
+use Rattle.payload.proofs.Big.{take-bytes, drop-bytes, big-lt, big-endian-of-big}
 use Rattle.sfc6.specs.declared.Request.{Request}
 use Rattle.sfc6.specs.declared.Request.the-variants.{ProductType}
 use Rattle.sfc6.specs.declared.Value.{Value}
@@ -128,16 +127,6 @@ starts-split sub.Missing payload h = refl
 starts-split (sub.Byte s) [] h = absurd (true≢false (sym h))
 starts-split (sub.Byte s) (b ∷ payload) h = ap (λ (x : ℕ). x ∷ payload) (sym (eqb-true b s h))
 
--- a part of bytes is bytes
-pub bytes-drop : (n : ℕ) (l : List ℕ) → Bytes l → Bytes (drop n l)
-bytes-drop n l h i = rw (getD-drop n l i 0) (h (n + i))
-
-pub bytes-take : (n : ℕ) (l : List ℕ) → Bytes l → Bytes (take n l)
-bytes-take zero l h i = omega arith
-bytes-take (suc n) [] h i = h i
-bytes-take (suc n) (x ∷ l) h zero = h 0
-bytes-take (suc n) (x ∷ l) h (suc i) = bytes-take n l (λ j. h (suc j)) i
-
 -- the number in a value's bytes is that of a u32
 value-fits : (v : Value) (n : ℕ) → n < 256 ^ length (valueBytes v) → n < 2 ^ 32
 unfolding bigEndian
@@ -164,7 +153,7 @@ data-back command payload request bytes h passed =
     let split = starts-split (r .sub) payload (both (eqb command (r .command)) _ name .1) in
     let width : length rest ≡ length (valueBytes (r .value)) =
     omega (arith, length-drop (length (subBytes (r .sub))) payload, fits-length command payload r fits, length-append (subBytes (r .sub)) (valueBytes (r .value))) in
-    let rest-bytes = bytes-drop (length (subBytes (r .sub))) payload bytes in
+    let rest-bytes = drop-bytes (length (subBytes (r .sub))) payload bytes in
     let small : n < 256 ^ length (valueBytes (r .value)) = subst (λ (k : ℕ). n < 256 ^ k) width (big-lt rest rest-bytes) in
     let range : outOfRange (row (f n) .value) ≡ false = ap (λ (q : Request). outOfRange (row q .value)) (at-table .2) ∙ passed .0 in
     let good : badFloat (row (f n) .value) ≡ false = ap (λ (q : Request). badFloat (row q .value)) (at-table .2) ∙ passed .1 in
@@ -225,7 +214,7 @@ module _ (body : List ℕ) (address : ℕ) (request : Request) where
   unfolding bodyOf
   body-back bytes r =
       let p = passes kind.Request body (r .checked) in
-      let d = data-back (getD body 1 0) (payloadOf body) request (bytes-take (length body - 4) (drop 3 body) (bytes-drop 3 body bytes)) (r .data-read) (passed-request address request (r .request-passed)) in
+      let d = data-back (getD body 1 0) (payloadOf body) request (take-bytes (length body - 4) (drop 3 body) (drop-bytes 3 body bytes)) (r .data-read) (passed-request address request (r .request-passed)) in
       let size : length (payloadOf body) ≡ getD body 2 0 =
       omega (arith, length-take (length body - 4) (drop 3 body), length-drop 3 body, p .length-right, p .least) in
       let same : bodyOf address (row request) ≡ take (length body - 1) body =

@@ -2,19 +2,19 @@
 use borrow.Author.Needs.{needs}
 use mathlib.Core.Path.{sym, ap}
 use Rattle.payload.specs.Field.{paperU8}
-use Rattle.payload.proofs.At.{taken-whole, known-number, known-never}
+use Rattle.payload.proofs.At.{taken-whole, taken-number, taken-never}
 use Rattle.replies.proofs.byte.Statement.{statement}
 use Rattle.replies.proofs.byte.Tie as tie
 
 returns : tie.Need-returns
 returns c =
     let f = c .before .before .before in
-    known-number (sym (ap paperU8 (c .before .n .given .1))) (f .first-u8 .ensures) (taken-whole _ _ (f .before .before .pre))
+    taken-number (sym (ap paperU8 (c .before .n .given .1))) (f .first-u8 .ensures) (taken-whole _ _ (f .before .before .pre))
 
 returns-2 : tie.Need-returns-2
 returns-2 c =
     let f = c .before .before in
-    known-never (sym (ap paperU8 (c .enum-told .given .1))) (f .first-u8 .ensures) (taken-whole _ _ (f .before .before .pre))
+    taken-never (sym (ap paperU8 (c .enum-told .given .1))) (f .first-u8 .ensures) (taken-whole _ _ (f .before .before .pre))
 
 pub byte-spec : {M : Type 1} → statement M
 byte-spec = tie.close (tie.spec (λ c κs. search needs) (λ c. search needs) (λ c. search needs) returns returns-2)

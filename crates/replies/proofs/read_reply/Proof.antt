@@ -5,7 +5,8 @@ use mathlib.Core.Path.{_≡_, ap}
 use Prim.Native.Nat.{_≤_, _-_}
 use lib.ListN.{length, getD}
 use Rattle.sfc6.specs.declared.Row.{Row}
-use Rattle.replies.proofs.Answers.{request-refused, body-refused, body-bounds, reply-14, reply-15, size-settled, data-read}
+use Rattle.replies.specs.Reader.{bit7In}
+use Rattle.replies.proofs.Answers.{request-refused, body-refused, body-bounds, reply-14, reply-15, size-settled, data-read, lent-read}
 use Rattle.replies.proofs.read_reply.Statement.{statement}
 use Rattle.replies.proofs.read_reply.Tie as tie
 
@@ -57,24 +58,26 @@ returns-4 c =
 
 read-data-requires : tie.Need-read-data-requires
 read-data-requires c κs =
-    let g = c .before .before in
+    let h = c .before in
+    let g = h .before .before in
     let f = g .before in
     let e = f .before .before in
     let a = start e .args in (
       ap (λ (r : Row). r .answer) (f .before .row-of .ensures),
       size-settled (a .address) (a .request) (a .body .now) (asked e .check-request .ensures) (bodied e .before .enum-told .given .1)
-          (bodied e .check-body .ensures) (e .enum-told2 .given .1) (f .before .row-of .ensures) (f .is-foreign .ensures) (g .if1 .left) (c .if2 .left),
+          (bodied e .check-body .ensures) (e .enum-told2 .given .1) (f .before .row-of .ensures) (f .is-foreign .ensures) (g .if1 .left) (h .if2 .left),
     )
 
 returns-5 : tie.Need-returns-5
 returns-5 c =
-    let h = c .before in
+    let h = c .before .before in
     let g = h .before .before in
     let f = g .before in
     let e = f .before .before in
     let a = start e .args in
     data-read (a .address) (a .request) (a .body .now) (asked e .check-request .ensures) (bodied e .before .enum-told .given .1) (bodied e .check-body .ensures)
-    (e .enum-told2 .given .1) (f .before .row-of .ensures) (f .is-foreign .ensures) (g .if1 .left) (h .if2 .left) (data-in _ (c .read-data .ensures))
+    (e .enum-told2 .given .1) (f .before .row-of .ensures) (f .is-foreign .ensures) (g .if1 .left) (h .if2 .left)
+    (lent-read (a .request) (f .before .row-of .result .answer) (a .body .now) (bit7In (a .body .now)) (c .read-data .ensures))
 
 pub read-reply-spec : {M : Type 1} → statement M
 read-reply-spec =
@@ -93,5 +96,9 @@ read-reply-spec =
     returns-3
     (λ c. omega (arith, bounds (c .before .before .before .before)))
     returns-4
+    (λ c. omega (arith, bounds (c .before .before .before .before .before)))
+    (λ c. omega (arith, bounds (c .before .before .before .before .before)))
+    (λ c. omega (arith, bounds (c .before .before .before .before .before)))
+    (λ c. omega (arith, bounds (c .before .before .before .before .before)))
     read-data-requires
     returns-5)
