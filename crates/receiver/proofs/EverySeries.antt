@@ -433,19 +433,19 @@ one-byte kind stream b = go (ltb (length (items kind stream)) (length (items kin
     go false = refl
 
 -- wherever a series stands, what is left can be handed in
-pub handed-in : (kind : Kind) (left stream : List Event) (r : Record) → r ≡ recordOf kind stream → (calls : List Call) × HandsIn r left calls
+hands-in : (kind : Kind) (left stream : List Event) (r : Record) → r ≡ recordOf kind stream → (calls : List Call) × HandsIn r left calls
 unfolding HandsIn
-handed-in kind [] stream r e = ([], refl)
-handed-in kind (mark ∷ left) stream r e =
-    let t = handed-in kind left (stream ++ added kind stream silence) (outcome r silence .leaves) (leaves-stream kind stream r e silence) in
+hands-in kind [] stream r e = ([], refl)
+hands-in kind (mark ∷ left) stream r e =
+    let t = hands-in kind left (stream ++ added kind stream silence) (outcome r silence .leaves) (leaves-stream kind stream r e silence) in
     (silence ∷ t .0, (left, refl, t .1))
-handed-in kind (byte b ∷ left) stream r e =
+hands-in kind (byte b ∷ left) stream r e =
     let room : List ℕ = replicate 260 0 in
     let call = feeding (b ∷ []) room in
     let size : 260 ≤ length room = omega (arith, length-replicate {A = ℕ} 260 0) in
     let one : feedOf r (b ∷ []) room .result .taken ≡ 1 =
     ap (λ (x : Result). x .taken) (meets-stream kind stream r e call .gives) ∙ expected-taken kind stream (b ∷ []) room size ∙ one-byte kind stream b in
-    let t = handed-in kind left (stream ++ added kind stream call) (outcome r call .leaves) (leaves-stream kind stream r e call) in
+    let t = hands-in kind left (stream ++ added kind stream call) (outcome r call .leaves) (leaves-stream kind stream r e call) in
     (call ∷ t .0, (left, refl, subst (λ (m : ℕ). HandsIn (feedOf r (b ∷ []) room .leaves) (map byte (drop m (b ∷ [])) ++ left) (t .0)) (sym one) (t .1)))
 
 pub demand3 : (kind : Kind) → Demand3 kind
@@ -459,5 +459,6 @@ demand3 kind =
       one-record = λ calls others same. end kind calls ∙ ap (recordOf kind) same ∙ sym (end kind others);
       in-ranges = λ stream. at-range kind (placeOf stream) (recordOf kind stream) (at-stream kind stream);
       every-cut = λ stream calls h. whole kind calls [] stream (fresh kind) (fresh-is kind) h;
+      handed-in = λ calls left. hands-in kind left (streamOf kind calls) (recordAfter (fresh kind) calls) (end kind calls);
       progress = λ calls piece buffer h l. some-taken kind (streamOf kind calls) (recordAfter (fresh kind) calls) piece buffer (end kind calls) h l;
     }

@@ -107,13 +107,16 @@ pub record Demand3 (kind : Kind) : Type 0 where
   pub all-items : (calls : List Call) → reports (results (fresh kind) calls) ≡ items kind (streamOf kind calls)
   -- the record at the end is a function of the stream
   pub end-record : (calls : List Call) → recordAfter (fresh kind) calls ≡ recordOf kind (streamOf kind calls)
-  -- "Two series with the same stream end in one and the same record."
+  -- two series with the same stream end in one and the same record
   pub one-record : (calls others : List Call) → streamOf kind calls ≡ streamOf kind others
       → recordAfter (fresh kind) calls ≡ recordAfter (fresh kind) others
   -- "the ranges admit every record that a stream leaves from the fresh one"
   pub in-ranges : (stream : List Event) → inRange (recordOf kind stream) ≡ true
-  -- "A stream cut anywhere, each rest handed in again, is taken whole", with calls refused for room in between
+  -- a stream cut anywhere, each rest handed in again, is taken whole, with calls refused for room in between
   pub every-cut : (stream : List Event) (calls : List Call) → HandsIn (fresh kind) stream calls → streamOf kind calls ≡ stream
+  -- what `every-cut` supposes can always be done: after any series of calls, whatever is left of a stream can be handed in to its end;
+  -- with no calls before, so can every stream
+  pub handed-in : (calls : List Call) (left : List Event) → (more : List Call) × HandsIn (recordAfter (fresh kind) calls) left more
   -- a call that is lent 260 bytes takes at least one byte of a piece that has one, so that handing in again comes to an end
   pub progress : (calls : List Call) (piece buffer : List ℕ) → 1 ≤ length piece → 260 ≤ length buffer
       → 1 ≤ feedOf (recordAfter (fresh kind) calls) piece buffer .result .taken
