@@ -18,7 +18,7 @@ use Rattle.receiver.specs.declared.Mode.{Mode}
 use Rattle.receiver.specs.declared.Mode.the-variants.{Outside, Plain, Escaped, BadEscape, BareControl}
 use Rattle.receiver.specs.Record.{Record, numberOfMode, lengthInRange, inRange}
 use Rattle.receiver.specs.Calls.{feedOf}
-use Rattle.mfc.specs.Receivers.{numberOfKind, kindAt, modeAt, bytesOf, storeIn, recordIn, fedBytes, feedAs, feedRecord, silenceAs, silenceRecord}
+use Rattle.mfc.specs.Receivers.{numberOfKind, kindAt, modeAt, bytesOf, storeIn, fieldsIn, recordIn, fedBytes, feedAs, feedRecord, silenceAs, silenceRecord}
 
 pub kind-back : (kind : Kind) → kindAt (numberOfKind kind) ≡ some kind
 kind-back Request = refl
@@ -59,10 +59,14 @@ module _ (lent : List ℕ) (r : Record) (long : 264 ≤ length lent) (good : inR
   unfolding overlay
   store-back = take-at (r .store) (drop (0 + length (bytesOf r)) lent) 260 (in-range r good .0)
 
-  pub found-again : recordIn (overlay lent 0 (bytesOf r)) ≡ some r
-  unfolding recordIn overlay
-  found-again =
+  fields-again : fieldsIn (overlay lent 0 (bytesOf r)) ≡ some r
+  unfolding fieldsIn overlay
+  fields-again =
       rw (le-ltb (length (overlay lent 0 (bytesOf r))) 264 put-long, store-back, kind-back (r .kind), mode-back (r .mode), two-bytes (r .len) (in-range r good .1))
+
+  pub found-again : recordIn (overlay lent 0 (bytesOf r)) ≡ some r
+  unfolding recordIn
+  found-again = rw (fields-again, good)
 
   pub feed-again : (piece frame : List ℕ) → feedRecord (overlay lent 0 (bytesOf r)) piece frame ≡ fedBytes (feedOf r piece frame) (overlay lent 0 (bytesOf r))
   unfolding feedRecord

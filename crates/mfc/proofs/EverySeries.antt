@@ -5,19 +5,20 @@ use mathlib.Core.List.{List, [], _∷_, _++_, map}
 use Prim.Native.Nat.{ℕ, _+_, _≤_}
 use native.Mathlib.Omega.{arith}
 use borrow.Author.Tests.{le-ltb}
-use lib.ListN.{length, drop}
-use lib.Seq.{drop-append-seam}
+use lib.ListN.{length, take, drop}
+use lib.Seq.{drop-append-seam, take-at}
 use Rattle.refusal.specs.Refusals.{number, refused}
 use Rattle.refusal.specs.Room.{overlay}
 use Rattle.shdlc.specs.declared.Kind.{Kind}
-use Rattle.receiver.specs.Record.{Record, inRange, pending, fresh}
+use Rattle.shdlc.specs.Stream.{Event}
+use Rattle.receiver.specs.Record.{Record, inRange, pending, fresh, recordOf}
 use Rattle.receiver.specs.Calls.{nothing, gave, Result, Outcome, feedOf, silenceOf}
-use Rattle.receiver.specs.Series.{Call, feeding, silence, outcome, results, recordAfter, streamOf, Demand3}
+use Rattle.receiver.specs.Series.{Call, feeding, silence, outcome, results, recordAfter, streamOf, expectedFrom, Demand3}
 use Rattle.receiver.proofs.Cases.{quiet, silence-said}
 use Rattle.receiver.proofs.EverySeries.{demand3}
 use Rattle.mfc.specs.declared.answers.MfcFed.{MfcFed}
 use Rattle.mfc.specs.Receivers.{numberOfKind, bytesOf, fed, refusalIn, freshRecord}
-use Rattle.mfc.specs.Series.{marked, called, answers, bytesAfter, told, SeriesOverBytes}
+use Rattle.mfc.specs.Series.{marked, called, answers, bytesAfter, told, begun, laidIn, SeriesOverBytes}
 use Rattle.mfc.proofs.Carried.{kind-back, in-range, feed-again, silence-again}
 
 -- a record's bytes over another's: what is left is the last
@@ -98,20 +99,53 @@ module _ (kind : Kind) (lent : List ℕ) (long : 264 ≤ length lent) where
       let g : inRange r ≡ true = ap inRange e ∙ in-ranges done in
       goes-call r call calls (on-call lent long r g call h) (goes calls (done ++ (call ∷ [])) (outcome r call .leaves) n)
 
-  fresh-bytes : freshRecord (numberOfKind kind) lent .1 ≡ overlay lent 0 (bytesOf (fresh kind))
+  -- the record's bytes are the first 264
+  abbrev leftBy : List Call → Record
+  leftBy calls = recordOf kind (streamOf kind calls)
+
+  laid-in : (r : Record) → inRange r ≡ true → overlay lent 0 (bytesOf r) ≡ laidIn lent r
+  unfolding overlay
+  laid-in r good = let n : 0 + length (bytesOf r) ≡ 264 = omega (arith, in-range r good .0) in ap (λ (k : ℕ). bytesOf r ++ drop k lent) n
+
+  begins : freshRecord (numberOfKind kind) lent ≡ (0, overlay lent 0 (bytesOf (fresh kind)))
   unfolding freshRecord
-  fresh-bytes = rw (le-ltb (length lent) 264 long, kind-back kind)
+  begins = rw (le-ltb (length lent) 264 long, kind-back kind)
+
+  fresh-bytes : begun kind lent ≡ overlay lent 0 (bytesOf (fresh kind))
+  fresh-bytes = ap (λ (x : ℕ × List ℕ). x .1) begins
 
   from-fresh : (calls : List Call) → Goes (fresh kind) calls
   unfolding recordAfter
   from-fresh calls = goes calls [] (fresh kind) refl
 
-  pub series-over-bytes : SeriesOverBytes kind lent
-  series-over-bytes =
-      record {
-        each-call =
-            λ calls. ap (λ (l : List ℕ). answers l calls) fresh-bytes ∙ from-fresh calls .gives ∙ ap (map told) (demand3 kind .each-call calls);
-        end-record =
-            λ calls. ap (λ (l : List ℕ). bytesAfter l calls) fresh-bytes ∙ from-fresh calls .leaves
-            ∙ ap (λ (r : Record). overlay lent 0 (bytesOf r)) (demand3 kind .end-record calls);
-      }
+  fresh-laid : freshRecord (numberOfKind kind) lent ≡ (0, laidIn lent (fresh kind))
+  unfolding recordAfter
+  fresh-laid = begins ∙ ap (λ (l : List ℕ). (0, l)) (laid-in (fresh kind) (in-ranges []))
+
+  each : (calls : List Call) → answers (begun kind lent) calls ≡ map told (expectedFrom kind [] calls)
+  each calls = ap (λ (l : List ℕ). answers l calls) fresh-bytes ∙ from-fresh calls .gives ∙ ap (map told) (demand3 kind .each-call calls)
+
+  end : (calls : List Call) → bytesAfter (begun kind lent) calls ≡ laidIn lent (leftBy calls)
+  end calls =
+      ap (λ (l : List ℕ). bytesAfter l calls) fresh-bytes ∙ from-fresh calls .leaves
+      ∙ ap (λ (r : Record). overlay lent 0 (bytesOf r)) (demand3 kind .end-record calls)
+      ∙ laid-in (leftBy calls) (demand3 kind .in-ranges (streamOf kind calls))
+
+  first : (calls : List Call) → take 264 (bytesAfter (begun kind lent) calls) ≡ bytesOf (leftBy calls)
+  first calls =
+      let good = demand3 kind .in-ranges (streamOf kind calls) in
+      let n : length (bytesOf (leftBy calls)) ≡ 264 = omega (arith, in-range (leftBy calls) good .0) in
+      ap (take 264) (end calls) ∙ take-at (bytesOf (leftBy calls)) (drop 264 lent) 264 n
+
+pub series-over-bytes : (kind : Kind) → SeriesOverBytes kind
+series-over-bytes kind =
+    record {
+      fresh-record = fresh-laid kind;
+      each-call = each kind;
+      end-record = end kind;
+      one-record =
+          λ lent other long big calls others same.
+          first kind lent long calls
+          ∙ ap (λ (stream : List Event). bytesOf (recordOf kind stream)) same
+          ∙ sym (first kind other big others);
+    }

@@ -14,6 +14,7 @@ use Rattle.refusal.specs.declared.Refusal.{Refusal}
 use Rattle.shdlc.specs.declared.Kind.{Kind}
 use Rattle.shdlc.specs.declared.Kind.the-variants.{Request, Reply}
 use Rattle.receiver.specs.declared.Mode.{Mode}
+use Rattle.receiver.specs.declared.Mode.the-variants.{Outside, Plain, Escaped, BadEscape, BareControl}
 use Rattle.receiver.specs.declared.Receiver.{Receiver}
 use Rattle.receiver.specs.Record.{Record, held, numberOfMode}
 use Rattle.receiver.specs.Calls.{gave}
@@ -24,7 +25,7 @@ use Rattle.mfc.specs.declared.receivers.ModeAt.{ModeAt}
 use Rattle.mfc.specs.declared.receivers.ModeAt.the-variants as modes
 use Rattle.mfc.specs.declared.receivers.Loaded.{Loaded}
 use Rattle.mfc.specs.declared.receivers.Loaded.the-variants as loaded
-use Rattle.mfc.specs.Receivers.{nth, numberOfKind, kindAt, modeAt, headOf, storeIn, recordOf, recordIn, paperKind, paperMode, paperLoaded, fed}
+use Rattle.mfc.specs.Receivers.{nth, numberOfKind, kindAt, modeAt, headOf, storeIn, fieldsOf, fieldsIn, paperKind, paperMode, paperLoaded, fed}
 
 -- past the end of a list nothing stands
 pub nth-past : {A : Type 0} (xs : List A) (n : ℕ) → length xs ≤ n → nth xs n ≡ none
@@ -34,65 +35,81 @@ nth-past (x ∷ xs) (suc n) h = nth-past xs n (omega arith)
 
 -- loading: each `return`
 module _ (lent : List ℕ) where
-  pub load-short : length lent < 264 → none ≡ recordIn lent
-  unfolding recordIn
+  pub load-short : length lent < 264 → none ≡ fieldsIn lent
+  unfolding fieldsIn
   load-short h = rw (lt-ltb (length lent) 264 h)
 
   module _ (long : 264 ≤ length lent) where
-    pub load-kind : {k : KindAt} → paperKind k ≡ kindAt (getD lent 0 0) → k ≡ kinds.Unknown → none ≡ recordIn lent
-    unfolding recordIn
+    pub load-kind : {k : KindAt} → paperKind k ≡ kindAt (getD lent 0 0) → k ≡ kinds.Unknown → none ≡ fieldsIn lent
+    unfolding fieldsIn
     load-kind e is =
         rw (le-ltb (length lent) 264 long)
-        (ap (λ (o : Option Kind). recordOf o (modeAt (getD lent 1 0)) (getD lent 2 0 * 256 + getD lent 3 0) (storeIn lent)) (sym (ap paperKind is) ∙ e))
+        (ap (λ (o : Option Kind). fieldsOf o (modeAt (getD lent 1 0)) (getD lent 2 0 * 256 + getD lent 3 0) (storeIn lent)) (sym (ap paperKind is) ∙ e))
 
     module _ {k : KindAt} {kind : Kind} (e : paperKind k ≡ kindAt (getD lent 0 0)) (is : k ≡ kinds.Known kind) where
-      pub load-mode : {m : ModeAt} → paperMode m ≡ modeAt (getD lent 1 0) → m ≡ modes.Unknown → none ≡ recordIn lent
-      unfolding recordIn
+      pub load-mode : {m : ModeAt} → paperMode m ≡ modeAt (getD lent 1 0) → m ≡ modes.Unknown → none ≡ fieldsIn lent
+      unfolding fieldsIn
       load-mode f on =
           rw (le-ltb (length lent) 264 long, ← e, is, ← f, on)
 
       pub load-held : {m : ModeAt} {mode : Mode} {len : ℕ} → paperMode m ≡ modeAt (getD lent 1 0) → m ≡ modes.Known mode
           → len ≡ getD lent 2 0 * 256 + getD lent 3 0
-          → some (record { kind = kind; mode = mode; len = len; store = storeIn lent }) ≡ recordIn lent
-      unfolding recordIn
+          → some (record { kind = kind; mode = mode; len = len; store = storeIn lent }) ≡ fieldsIn lent
+      unfolding fieldsIn
       load-held f on g =
           rw (le-ltb (length lent) 264 long, ← e, is, ← f, on, g)
 
--- a record that was loaded has its bytes
-pub loaded-long : (lent : List ℕ) {l : Loaded} {r : Receiver} → paperLoaded l (storeIn lent) ≡ recordIn lent → l ≡ loaded.Held r → 264 ≤ length lent
-unfolding recordIn
-loaded-long lent {l} {r} e is = go (ltb (length lent) 264) refl (sym (ap (λ (x : Loaded). paperLoaded x (storeIn lent)) is) ∙ e)
+-- a number by which a kind or a mode is found is its own
+kind-number : (n : ℕ) (kind : Kind) → kindAt n ≡ some kind → numberOfKind kind ≡ n
+kind-number zero kind e = let k : kind ≡ Request = cc in rw k
+kind-number (suc zero) kind e = let k : kind ≡ Reply = cc in rw k
+kind-number (suc (suc n)) kind e = absurd (let z : _≡_ {A = ℕ} 0 1 = cc in omega arith)
+
+mode-number : (n : ℕ) (mode : Mode) → modeAt n ≡ some mode → numberOfMode mode ≡ n
+mode-number zero mode e = let m : mode ≡ Outside = cc in rw m
+mode-number (suc zero) mode e = let m : mode ≡ Plain = cc in rw m
+mode-number (suc (suc zero)) mode e = let m : mode ≡ Escaped = cc in rw m
+mode-number (suc (suc (suc zero))) mode e = let m : mode ≡ BadEscape = cc in rw m
+mode-number (suc (suc (suc (suc zero)))) mode e = let m : mode ≡ BareControl = cc in rw m
+mode-number (suc (suc (suc (suc (suc n))))) mode e = absurd (let z : _≡_ {A = ℕ} 0 1 = cc in omega arith)
+
+-- what lent bytes are that hold the fields of a record
+pub record Spells (lent : List ℕ) (r : Record) : Type 0 where
+  pub long : 264 ≤ length lent
+  pub kind : numberOfKind (r .kind) ≡ getD lent 0 0
+  pub mode : numberOfMode (r .mode) ≡ getD lent 1 0
+  pub len : r .len ≡ getD lent 2 0 * 256 + getD lent 3 0
+  pub store : r .store ≡ storeIn lent
+
+abbrev orElse : Option Record → Record → Record
+orElse none other = other
+orElse (some r) other = r
+
+pub spells : (lent : List ℕ) (r : Record) → some r ≡ fieldsIn lent → Spells lent r
+unfolding fieldsIn
+spells lent r = go (ltb (length lent) 264) (kindAt (getD lent 0 0)) (modeAt (getD lent 1 0)) refl refl refl
   where
-    go : (t : Bool) → ltb (length lent) 264 ≡ t
-        → some (held r (storeIn lent))
-        ≡ cond t none (recordOf (kindAt (getD lent 0 0)) (modeAt (getD lent 1 0)) (getD lent 2 0 * 256 + getD lent 3 0) (storeIn lent))
-        → 264 ≤ length lent
-    go true h f = absurd (let z : _≡_ {A = ℕ} 0 1 = cc in omega arith)
-    go false h f = ltb-false (length lent) 264 h
+    go : (t : Bool) (k : Option Kind) (m : Option Mode) → ltb (length lent) 264 ≡ t → kindAt (getD lent 0 0) ≡ k → modeAt (getD lent 1 0) ≡ m
+        → some r ≡ cond t none (fieldsOf k m (getD lent 2 0 * 256 + getD lent 3 0) (storeIn lent)) → Spells lent r
+    go true k m h p q f = absurd (let z : _≡_ {A = ℕ} 0 1 = cc in omega arith)
+    go false none m h p q f = absurd (let z : _≡_ {A = ℕ} 0 1 = cc in omega arith)
+    go false (some kind) none h p q f = absurd (let z : _≡_ {A = ℕ} 0 1 = cc in omega arith)
+    go false (some kind) (some mode) h p q f =
+        let e = ap (λ (o : Option Record). orElse o r) f in
+        record {
+          long = ltb-false (length lent) 264 h;
+          kind = ap (λ (x : Record). numberOfKind (x .kind)) e ∙ kind-number (getD lent 0 0) kind p;
+          mode = ap (λ (x : Record). numberOfMode (x .mode)) e ∙ mode-number (getD lent 1 0) mode q;
+          len = ap (λ (x : Record). x .len) e;
+          store = ap (λ (x : Record). x .store) e;
+        }
 
--- the number of its kind is its first byte
-number-at : (n : ℕ) (kind : Kind) → some kind ≡ kindAt n → numberOfKind kind ≡ n
-number-at zero kind e = let k : kind ≡ Request = cc in rw k
-number-at (suc zero) kind e = let k : kind ≡ Reply = cc in rw k
-number-at (suc (suc n)) kind e = absurd (let z : _≡_ {A = ℕ} 0 1 = cc in omega arith)
+-- what was loaded is what the bytes hold
+pub holds : (lent : List ℕ) {l is : Loaded} → paperLoaded l (storeIn lent) ≡ fieldsIn lent → l ≡ is → paperLoaded is (storeIn lent) ≡ fieldsIn lent
+holds lent e f = sym (ap (λ (x : Loaded). paperLoaded x (storeIn lent)) f) ∙ e
 
-abbrev kindIn : Option Record → Option Kind
-kindIn none = none
-kindIn (some r) = some (r .kind)
-
-pub loaded-kind : (lent : List ℕ) {l : Loaded} {r : Receiver} → paperLoaded l (storeIn lent) ≡ recordIn lent → l ≡ loaded.Held r
-    → numberOfKind (r .kind) ≡ getD lent 0 0
-unfolding recordIn
-loaded-kind lent {l} {r} e is =
-    number-at (getD lent 0 0) (r .kind)
-    (go (ltb (length lent) 264) (kindAt (getD lent 0 0)) (modeAt (getD lent 1 0)) (sym (ap (λ (x : Loaded). paperLoaded x (storeIn lent)) is) ∙ e))
-  where
-    go : (t : Bool) (k : Option Kind) (m : Option Mode)
-        → some (held r (storeIn lent)) ≡ cond t none (recordOf k m (getD lent 2 0 * 256 + getD lent 3 0) (storeIn lent)) → some (r .kind) ≡ k
-    go true k m f = absurd (let z : _≡_ {A = ℕ} 0 1 = cc in omega arith)
-    go false none m f = absurd (let z : _≡_ {A = ℕ} 0 1 = cc in omega arith)
-    go false (some kind) none f = absurd (let z : _≡_ {A = ℕ} 0 1 = cc in omega arith)
-    go false (some kind) (some mode) f = ap kindIn f
+pub loaded-long : (lent : List ℕ) {l : Loaded} {r : Receiver} → paperLoaded l (storeIn lent) ≡ fieldsIn lent → l ≡ loaded.Held r → 264 ≤ length lent
+loaded-long lent {l} {r} e is = spells lent (held r (storeIn lent)) (holds lent e is) .long
 
 -- three stores after the first byte
 three : (l : List ℕ) (b c d : ℕ) → 4 ≤ length l → set (set (set l 1 b) 2 c) 3 d ≡ overlay l 1 (b ∷ c ∷ d ∷ [])

@@ -1,32 +1,35 @@
 -- The three calls of a receiver over lent bytes: each `return`. Assumes nothing.
-use mathlib.Core.Path.{_≡_, sym, ap, _∙_}
+use mathlib.Core.Path.{_≡_, refl, sym, ap, _∙_}
+use mathlib.Core.Bool.{Bool, true, false, cond}
 use mathlib.Core.List.{List, [], _∷_, _++_}
-use mathlib.Core.Option.{Option}
-use Prim.Native.Nat.{ℕ, _+_, _≤_, _<_}
+use mathlib.Core.Option.{Option, none, some}
+use Prim.Native.Nat.{ℕ, _+_, _*_, _/_, _%_, _≤_, _<_}
 use native.Mathlib.Omega.{arith}
-use borrow.Author.Tests.{lt-ltb, le-ltb, eq-eqb}
-use lib.ListN.{length, getD, take, drop, replicate, length-take, length-drop, take-append-drop}
-use Rattle.refusal.specs.Refusals.{numberOf, paper, Answered, served, refused}
+use borrow.Author.Tests.{lt-ltb, le-ltb}
+use lib.ListN.{length, getD, take, drop, replicate, length-take, length-drop, length-replicate, take-append-drop}
+use lib.Seq.{take-all}
+use Rattle.refusal.specs.Refusals.{number, numberOf, paper, Answered, served, refused}
 use Rattle.refusal.specs.Room.{overlay}
 use Rattle.refusal.specs.declared.Refusal.{Refusal}
 use Rattle.refusal.specs.declared.Refusal.the-variants.{NoRoom, OutOfRange, BadRecord}
 use Rattle.refusal.proofs.Order.{refused-not-served}
+use Rattle.refusal.proofs.Room.{overlay-all}
 use Rattle.shdlc.specs.declared.Kind.{Kind}
 use Rattle.receiver.specs.declared.Receiver.{Receiver}
 use Rattle.receiver.specs.declared.Fed.{Fed}
 use Rattle.receiver.specs.declared.Quiet.{Quiet}
 use Rattle.receiver.specs.declared.Made.{Made}
 use Rattle.receiver.specs.declared.Made.the-variants as made
-use Rattle.receiver.specs.Record.{Record, held, fresh}
+use Rattle.receiver.specs.Record.{Record, held, inRange, fresh}
 use Rattle.receiver.specs.Calls.{gave, Outcome, paperAnswer, paperFed, paperQuiet, paperMade, freshOf, feedOf, silenceOf}
-use Rattle.receiver.proofs.Cases.{kind-fed, kind-quiet}
+use Rattle.receiver.proofs.Cases.{feed-range, silence-range, kind-fed, kind-quiet}
 use Rattle.mfc.specs.declared.answers.MfcFed.{MfcFed}
 use Rattle.mfc.specs.declared.receivers.KindAt.{KindAt}
 use Rattle.mfc.specs.declared.receivers.KindAt.the-variants as kinds
 use Rattle.mfc.specs.declared.receivers.Loaded.{Loaded}
 use Rattle.mfc.specs.declared.receivers.Loaded.the-variants as loaded
-use Rattle.mfc.specs.Receivers.{numberOfKind, kindAt, headOf, bytesOf, storeIn, recordIn, paperKind, paperLoaded, fed, refusalIn, freshAs, freshRecord, fedBytes, feedAs, feedRecord, silenceAs, silenceRecord}
-use Rattle.mfc.proofs.Heads.{placeOf, loaded-kind}
+use Rattle.mfc.specs.Receivers.{numberOfKind, kindAt, headOf, bytesOf, storeIn, fieldsIn, ranged, recordIn, paperKind, paperLoaded, fed, refusalIn, freshAs, freshRecord, fedBytes, feedAs, feedRecord, silenceAs, silenceRecord}
+use Rattle.mfc.proofs.Heads.{placeOf, Spells, spells, holds}
 
 -- the lent bytes with another store
 abbrev pub stored : List ℕ → List ℕ → List ℕ
@@ -70,49 +73,94 @@ stored-long (x ∷ y ∷ []) store h = absurd (omega arith)
 stored-long (x ∷ y ∷ z ∷ []) store h = absurd (omega arith)
 stored-long (x ∷ y ∷ z ∷ w ∷ rest) store h = omega arith
 
-module _ (lent : List ℕ) {l : Loaded} (e : paperLoaded l (storeIn lent) ≡ recordIn lent) where
-  -- what was loaded is what the bytes hold
-  holds : {is : Loaded} → l ≡ is → paperLoaded is (storeIn lent) ≡ recordIn lent
-  holds f = sym (ap (λ (x : Loaded). paperLoaded x (storeIn lent)) f) ∙ e
+-- a record's fields, put back where they stand
+same-head : (lent : List ℕ) → 4 ≤ length lent
+    → overlay lent 0 (getD lent 0 0 ∷ getD lent 1 0 ∷ getD lent 2 0 ∷ getD lent 3 0 ∷ []) ≡ lent
+unfolding overlay
+same-head [] h = absurd (omega arith)
+same-head (x ∷ []) h = absurd (omega arith)
+same-head (x ∷ y ∷ []) h = absurd (omega arith)
+same-head (x ∷ y ∷ z ∷ []) h = absurd (omega arith)
+same-head (x ∷ y ∷ z ∷ w ∷ rest) h = refl
 
+high-back : (n a b : ℕ) → n ≡ a * 256 + b → a < 256 → b < 256 → n / 256 % 256 ≡ a
+high-back n a b e g h = omega arith
+
+low-back : (n a b : ℕ) → n ≡ a * 256 + b → b < 256 → n % 256 ≡ b
+low-back n a b e h = omega arith
+
+pub put-back : (lent : List ℕ) (r : Record) → ((i : ℕ) → getD lent i 0 < 256) → Spells lent r → overlay lent 0 (bytesOf r) ≡ lent
+put-back lent r byte s =
+    rw (s .kind, s .mode, s .store, high-back (r .len) (getD lent 2 0) (getD lent 3 0) (s .len) (byte 2) (byte 3), low-back (r .len) (getD lent 2 0) (getD lent 3 0) (s .len) (byte 3))
+    (sym (laid lent (storeIn lent) (getD lent 0 0) (getD lent 1 0) (getD lent 2 0) (getD lent 3 0) (s .long) (store-size lent (s .long)))
+    ∙ ap (λ (l : List ℕ). overlay l 0 (getD lent 0 0 ∷ getD lent 1 0 ∷ getD lent 2 0 ∷ getD lent 3 0 ∷ [])) (store-same lent)
+    ∙ same-head lent (omega (arith, s .long)))
+
+-- a call on the fields is the call on the record: out of their ranges they are put back as they were
+module _ (lent : List ℕ) (byte : (i : ℕ) → getD lent i 0 < 256) (r : Record) (e : some r ≡ fieldsIn lent) where
+  abbrev back : overlay lent 0 (bytesOf r) ≡ lent
+  back = put-back lent r byte (spells lent r e)
+
+  feed-fields : (piece frame : List ℕ) → fedBytes (feedOf r piece frame) lent ≡ feedRecord lent piece frame
+  unfolding feedRecord recordIn
+  feed-fields piece frame = go (inRange r) refl ∙ ap (λ (o : Option Record). feedAs (ranged o) lent piece frame) e
+    where
+      go : (t : Bool) → inRange r ≡ t → fedBytes (feedOf r piece frame) lent ≡ feedAs (cond t (some r) none) lent piece frame
+      go true h = refl
+      go false h =
+          ap (λ (o : Outcome). fedBytes o lent) (feed-range r piece frame h)
+          ∙ ap (λ (l : List ℕ). (fed (gave (refused (number 2))) 0, l, frame)) back
+
+  silence-fields : silenceAs (some r) lent ≡ silenceRecord lent
+  unfolding silenceRecord recordIn
+  silence-fields = go (inRange r) refl ∙ ap (λ (o : Option Record). silenceAs (ranged o) lent) e
+    where
+      go : (t : Bool) → inRange r ≡ t → silenceAs (some r) lent ≡ silenceAs (cond t (some r) none) lent
+      go true h = refl
+      go false h =
+          ap (λ (o : Outcome). (refusalIn (o .result .said), overlay lent 0 (bytesOf (o .leaves)))) (silence-range r h)
+          ∙ ap (λ (l : List ℕ). (2, l)) back
+
+-- the returns of the two calls
+module _ (lent : List ℕ) {l : Loaded} (e : paperLoaded l (storeIn lent) ≡ fieldsIn lent) where
   -- a call that leaves the kind leaves the first byte
   kind-stays : {r : Receiver} {kind : Kind} → l ≡ loaded.Held r → kind ≡ r .kind → numberOfKind kind ≡ getD lent 0 0
-  kind-stays is f = ap numberOfKind f ∙ loaded-kind lent e is
+  kind-stays {r} is f = ap numberOfKind f ∙ spells lent (held r (storeIn lent)) (holds lent e is) .kind
 
   module _ (piece frame : List ℕ) where
     pub feed-bad : {result : MfcFed} → l ≡ loaded.BadRecord → result ≡ fed (gave (refused (paper BadRecord))) 0
         → (result, lent, frame) ≡ feedRecord lent piece frame
-    unfolding feedRecord
+    unfolding feedRecord recordIn
     feed-bad is r =
-        ap (λ (x : MfcFed). (x, lent, frame)) r ∙ ap (λ (o : Option Record). feedAs o lent piece frame) (holds is)
+        ap (λ (x : MfcFed). (x, lent, frame)) r ∙ ap (λ (o : Option Record). feedAs (ranged o) lent piece frame) (holds lent e is)
 
-    pub feed-held : (f : Fed) {r : Receiver} {store after bytes : List ℕ} {result : MfcFed} → 264 ≤ length lent → l ≡ loaded.Held r
+    pub feed-held : (f : Fed) {r : Receiver} {store after bytes : List ℕ} {result : MfcFed} → ((i : ℕ) → getD lent i 0 < 256)
+        → 264 ≤ length lent → l ≡ loaded.Held r
         → length store ≡ length (storeIn lent)
         → paperFed f store after ≡ feedOf (held r (storeIn lent)) piece frame
         → bytes ≡ overlay (stored lent store) 1 (placeOf (f .receiver .mode) (f .receiver .len))
         → result ≡ fed (paperAnswer (f .answer)) (f .taken)
         → (result, bytes, after) ≡ feedRecord lent piece frame
-    unfolding feedRecord
-    feed-held f {r} {store} {after} long is size g b w =
+    feed-held f {r} {store} {after} byte long is size g b w =
         let k = kind-stays is (kind-fed f store after (held r (storeIn lent)) piece frame g) in
         rw (w, b, placed lent store _ _ _ k long (size ∙ store-size lent long))
-        (ap (λ (o : Outcome). fedBytes o lent) g ∙ ap (λ (o : Option Record). feedAs o lent piece frame) (holds is))
+        (ap (λ (o : Outcome). fedBytes o lent) g ∙ feed-fields lent byte (held r (storeIn lent)) (holds lent e is) piece frame)
 
   pub silence-bad : {result : ℕ} → l ≡ loaded.BadRecord → result ≡ numberOf BadRecord → (result, lent) ≡ silenceRecord lent
-  unfolding silenceRecord
-  silence-bad is r = ap (λ (x : ℕ). (x, lent)) r ∙ ap (λ (o : Option Record). silenceAs o lent) (holds is)
+  unfolding silenceRecord recordIn
+  silence-bad is r = ap (λ (x : ℕ). (x, lent)) r ∙ ap (λ (o : Option Record). silenceAs (ranged o) lent) (holds lent e is)
 
-  pub silence-held : (q : Quiet) {r : Receiver} {bytes : List ℕ} {result : ℕ} → 264 ≤ length lent → l ≡ loaded.Held r
+  pub silence-held : (q : Quiet) {r : Receiver} {bytes : List ℕ} {result : ℕ} → ((i : ℕ) → getD lent i 0 < 256)
+      → 264 ≤ length lent → l ≡ loaded.Held r
       → paperQuiet q (storeIn lent) ≡ silenceOf (held r (storeIn lent))
       → bytes ≡ overlay lent 1 (placeOf (q .receiver .mode) (q .receiver .len))
       → result ≡ refusalIn (paperAnswer (q .answer))
       → (result, bytes) ≡ silenceRecord lent
-  unfolding silenceRecord
-  silence-held q {r} long is g b w =
+  silence-held q {r} byte long is g b w =
       let k = kind-stays is (kind-quiet q (storeIn lent) (held r (storeIn lent)) g) in
       rw (w, b, placed-alone lent _ _ _ k long)
       (ap (λ (o : Outcome). (refusalIn (o .result .said), overlay lent 0 (bytesOf (o .leaves)))) g
-      ∙ ap (λ (o : Option Record). silenceAs o lent) (holds is))
+      ∙ silence-fields lent byte (held r (storeIn lent)) (holds lent e is))
 
 -- a fresh record
 module _ (kind : ℕ) (lent : List ℕ) where
@@ -132,14 +180,20 @@ module _ (kind : ℕ) (lent : List ℕ) where
     module _ {known : Kind} (is : k ≡ kinds.Known known) (m : Made) {store : List ℕ} (made-so : (paperMade m store, store) ≡ freshOf known (storeIn lent)) where
       served-so : _≡_ {A = Answered Record × List ℕ} (paperMade m store, store) (served (fresh known), replicate 260 0)
       unfolding freshOf
-      served-so = made-so ∙ rw (eq-eqb (length (storeIn lent)) 260 (store-size lent long))
+      served-so =
+          let size : length (storeIn lent) ≡ 260 = store-size lent long in
+          let zeros : List ℕ = replicate 260 0 in
+          let all : length zeros ≡ length (storeIn lent) = length-replicate {A = ℕ} 260 0 ∙ sym size in
+          made-so ∙ rw (le-ltb (length (storeIn lent)) 260 (omega arith), overlay-all (storeIn lent) zeros all)
 
       pub fresh-made : {r : Receiver} {bytes : List ℕ} → m ≡ made.Fresh r
           → bytes ≡ overlay (stored lent store) 0 (headOf (r .kind) (r .mode) (r .len)) → (0, bytes) ≡ freshRecord kind lent
       fresh-made {r} {bytes} f b =
           let size : length store ≡ 260 = ap (λ (o : Answered Record × List ℕ). length (o .1)) served-so in
-          let same : served (held r store) ≡ served (fresh known) = sym (ap (λ (x : Made). paperMade x store) f) ∙ ap (λ (o : Answered Record × List ℕ). o .0) served-so in
-          let is-it : held r store ≡ fresh known = cc in
+          let all : store ≡ take 260 store = sym (take-all 260 store (omega arith)) in
+          let same : served (held r (take 260 store)) ≡ served (fresh known) = sym (ap (λ (x : Made). paperMade x store) f) ∙ ap (λ (o : Answered Record × List ℕ). o .0) served-so in
+          let part : held r (take 260 store) ≡ fresh known = cc in
+          let is-it : held r store ≡ fresh known = ap (held r) all ∙ part in
           let whole : bytes ≡ overlay lent 0 (bytesOf (held r store)) = b ∙ laid lent store _ _ _ _ long size in
           rw whole
           (_∙_ {b = freshAs (paperKind (kinds.Known known)) lent} (ap (λ (x : Record). (0, overlay lent 0 (bytesOf x))) is-it) (as-kind is))

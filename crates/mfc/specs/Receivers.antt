@@ -12,7 +12,7 @@ use Rattle.shdlc.specs.declared.Kind.{Kind}
 use Rattle.shdlc.specs.declared.Kind.the-variants.{Request, Reply}
 use Rattle.receiver.specs.declared.Mode.{Mode}
 use Rattle.receiver.specs.declared.Mode.the-variants.{Outside, Plain, Escaped, BadEscape, BareControl}
-use Rattle.receiver.specs.Record.{Record, held, numberOfMode, fresh}
+use Rattle.receiver.specs.Record.{Record, held, numberOfMode, inRange, fresh}
 use Rattle.receiver.specs.Calls.{Said, nothing, gave, Outcome, feedOf, silenceOf}
 use Rattle.mfc.specs.declared.answers.MfcFed.{MfcFed}
 use Rattle.mfc.specs.declared.receivers.KindAt.{KindAt}
@@ -47,19 +47,27 @@ headOf kind mode len = numberOfKind kind ∷ numberOfMode mode ∷ len / 256 % 2
 abbrev pub bytesOf : Record → List ℕ
 bytesOf r = headOf (r .kind) (r .mode) (r .len) ++ r .store
 
--- the record in lent bytes: none where there are too few, or where a number is that of no kind or mode
+-- the fields in lent bytes, whatever the length is: none where there are too few bytes, or where a number is that of no kind or mode
 abbrev pub storeIn : List ℕ → List ℕ
 storeIn lent = take 260 (drop 4 lent)
 
-abbrev pub recordOf : Option Kind → Option Mode → ℕ → List ℕ → Option Record
-recordOf none mode len store = none
-recordOf (some kind) none len store = none
-recordOf (some kind) (some mode) len store = some (record { kind = kind; mode = mode; len = len; store = store })
+abbrev pub fieldsOf : Option Kind → Option Mode → ℕ → List ℕ → Option Record
+fieldsOf none mode len store = none
+fieldsOf (some kind) none len store = none
+fieldsOf (some kind) (some mode) len store = some (record { kind = kind; mode = mode; len = len; store = store })
+
+unfoldable pub fieldsIn : List ℕ → Option Record
+fieldsIn lent =
+    cond (ltb (length lent) 264) none
+    (fieldsOf (kindAt (getD lent 0 0)) (modeAt (getD lent 1 0)) (getD lent 2 0 * 256 + getD lent 3 0) (storeIn lent))
+
+-- the record in lent bytes: none where they hold none that is within its ranges
+abbrev pub ranged : Option Record → Option Record
+ranged none = none
+ranged (some r) = cond (inRange r) (some r) none
 
 unfoldable pub recordIn : List ℕ → Option Record
-recordIn lent =
-    cond (ltb (length lent) 264) none
-    (recordOf (kindAt (getD lent 0 0)) (modeAt (getD lent 1 0)) (getD lent 2 0 * 256 + getD lent 3 0) (storeIn lent))
+recordIn lent = ranged (fieldsIn lent)
 
 -- the enums of the code in these words
 abbrev pub paperKind : KindAt → Option Kind

@@ -1,10 +1,10 @@
 -- The C interface, every series of calls with one receiver: demand 3 over the record's bytes.
-use Prim.Native.Nat.{ℕ}
+use Prim.Native.Nat.{ℕ, _≤_}
 use mathlib.Core.Path.{_≡_}
-use mathlib.Core.List.{List, [], _∷_, map}
-use Rattle.refusal.specs.Room.{overlay}
+use mathlib.Core.List.{List, [], _∷_, _++_, map}
+use lib.ListN.{length, take, drop}
 use Rattle.shdlc.specs.declared.Kind.{Kind}
-use Rattle.receiver.specs.Record.{recordOf}
+use Rattle.receiver.specs.Record.{Record, fresh, recordOf}
 use Rattle.receiver.specs.Calls.{Result}
 use Rattle.receiver.specs.Series.{Call, feeding, silence, streamOf, expectedFrom}
 use Rattle.mfc.specs.declared.answers.MfcFed.{MfcFed}
@@ -31,8 +31,25 @@ bytesAfter lent (call ∷ calls) = bytesAfter (called lent call .1) calls
 abbrev pub told : Result → MfcFed × List ℕ
 told r = (fed (r .said) (r .taken), r .buffer)
 
--- Demand 3, for C: each series of calls after `mfc_receiver_fresh`, over 264 lent bytes or more, gives what its stream says.
-pub record SeriesOverBytes (kind : Kind) (lent : List ℕ) : Type 0 where
-  pub each-call : (calls : List Call) → answers (freshRecord (numberOfKind kind) lent .1) calls ≡ map told (expectedFrom kind [] calls)
-  pub end-record : (calls : List Call)
-      → bytesAfter (freshRecord (numberOfKind kind) lent .1) calls ≡ overlay lent 0 (bytesOf (recordOf kind (streamOf kind calls)))
+-- what `mfc_receiver_fresh` leaves in lent bytes
+abbrev pub begun : Kind → List ℕ → List ℕ
+begun kind lent = freshRecord (numberOfKind kind) lent .1
+
+-- a record's bytes at the start of lent ones; those past them are as they were
+abbrev pub laidIn : List ℕ → Record → List ℕ
+laidIn lent r = bytesOf r ++ drop 264 lent
+
+-- Demand 3, for C: every series of calls after `mfc_receiver_fresh` over any 264 lent bytes or more.
+pub record SeriesOverBytes (kind : Kind) : Type 0 where
+  -- the series begins with the fresh record
+  pub fresh-record : (lent : List ℕ) → 264 ≤ length lent → freshRecord (numberOfKind kind) lent ≡ (0, laidIn lent (fresh kind))
+  -- each call's answer, the bytes it took and the lent frame afterwards are those that the stream says
+  pub each-call : (lent : List ℕ) → 264 ≤ length lent → (calls : List Call)
+      → answers (begun kind lent) calls ≡ map told (expectedFrom kind [] calls)
+  -- the record's bytes at the end are a function of the kind and the stream
+  pub end-record : (lent : List ℕ) → 264 ≤ length lent → (calls : List Call)
+      → bytesAfter (begun kind lent) calls ≡ laidIn lent (recordOf kind (streamOf kind calls))
+  -- two series with the same stream end in the same 264 bytes, whatever was lent for each
+  pub one-record : (lent other : List ℕ) → 264 ≤ length lent → 264 ≤ length other → (calls others : List Call)
+      → streamOf kind calls ≡ streamOf kind others
+      → take 264 (bytesAfter (begun kind lent) calls) ≡ take 264 (bytesAfter (begun kind other) others)

@@ -13,7 +13,7 @@ ghost use lib.ListN.{length};
 ghost use Rattle.refusal.specs.Room.{overlay};
 ghost use Rattle.receiver.specs.Record.{numberOfMode};
 ghost use Rattle.receiver.specs.Calls.{paperAnswer};
-ghost use Rattle.mfc.specs.Receivers.{numberOfKind, kindAt, modeAt, paperKind, paperMode, paperLoaded, headOf, storeIn, recordIn, fed, refusalIn, freshRecord, feedRecord, silenceRecord};
+ghost use Rattle.mfc.specs.Receivers.{numberOfKind, kindAt, modeAt, paperKind, paperMode, paperLoaded, headOf, storeIn, fieldsIn, fed, refusalIn, freshRecord, feedRecord, silenceRecord};
 
 // A kind of frame, a mode and a record by their numbers.
 enum KindAt {
@@ -81,9 +81,9 @@ fn low(n: usize) -> u8
     (n % 256) as u8
 }
 
-// The record in the lent bytes, its store aside.
+// The record in the lent bytes, its store aside; whether its length is in range, the receiver's own calls test.
 fn load(lent: &[u8]) -> Loaded
-    ensures { λ r. ⌜ paperLoaded r (storeIn (now (lent .entry))) ≡ recordIn (now (lent .entry)) ⌝ }
+    ensures { λ r. ⌜ paperLoaded r (storeIn (now (lent .entry))) ≡ fieldsIn (now (lent .entry)) ⌝ }
 {
     if lent.len() < 264 {
         return Loaded::BadRecord;

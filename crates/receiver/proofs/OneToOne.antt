@@ -3,6 +3,7 @@ use mathlib.Core.Path.{_≡_, refl, sym, ap, _∙_}
 use mathlib.Core.List.{List}
 use Prim.Native.Nat.{ℕ}
 use native.Mathlib.Omega.{arith}
+use lib.ListN.{take}
 use Rattle.refusal.specs.Refusals.{Answered, served, refused, paper}
 use Rattle.refusal.proofs.OneToOne.{refused-one-to-one}
 use Rattle.refusal.proofs.Order.{refused-not-served}
@@ -53,7 +54,7 @@ quiet-one-to-one f g store other e =
 
 pub made-one-to-one : (a b : Made) (store other : List ℕ) → paperMade a store ≡ paperMade b other → a ≡ b
 made-one-to-one (made.Fresh r) (made.Fresh s) store other e =
-    ap made.Fresh (held-one-to-one r s store other (let z : held r store ≡ held s other = cc in z))
+    ap made.Fresh (held-one-to-one r s (take 260 store) (take 260 other) (let z : held r (take 260 store) ≡ held s (take 260 other) = cc in z))
 made-one-to-one (made.Fresh r) (made.Refused s) store other e = absurd (refused-not-served (sym e))
 made-one-to-one (made.Refused r) (made.Fresh s) store other e = absurd (refused-not-served e)
 made-one-to-one (made.Refused r) (made.Refused s) store other e = ap made.Refused (refused-one-to-one r s e)

@@ -3,7 +3,7 @@ use Prim.Native.Nat.{ℕ, _+_}
 use mathlib.Core.Bool.{Bool, true, false, cond, _&&_}
 use mathlib.Core.List.{List, [], _∷_}
 use lib.Dec.{ltb, eqb}
-use lib.ListN.{length, replicate}
+use lib.ListN.{length, take, replicate}
 use Rattle.refusal.specs.Refusals.{Numbered, number, Answered, served, refused, paper}
 use Rattle.refusal.specs.Room.{overlay}
 use Rattle.shdlc.specs.declared.Kind.{Kind}
@@ -47,13 +47,14 @@ paperFed f store buffer =
 abbrev pub paperQuiet : Quiet → List ℕ → Outcome
 paperQuiet q store = record { leaves = held (q .receiver) store; result = record { said = paperAnswer (q .answer); taken = 0; buffer = [] } }
 
+-- the store of the record that is made is the first 260 bytes of the one lent
 abbrev pub paperMade : Made → List ℕ → Answered Record
-paperMade (made.Fresh r) store = served (held r store)
+paperMade (made.Fresh r) store = served (held r (take 260 store))
 paperMade (made.Refused r) store = refused (paper r)
 
--- the fresh record in a store of 260 bytes, or refusal 1
+-- refusal 1 under 260 bytes; else the fresh record, and the lent store with its zeros at the start and all else as it was
 unfoldable pub freshOf : Kind → List ℕ → Answered Record × List ℕ
-freshOf kind store = cond (eqb (length store) 260) (served (fresh kind), replicate 260 0) (refused (number 1), store)
+freshOf kind store = cond (ltb (length store) 260) (refused (number 1), store) (served (fresh kind), overlay store 0 (replicate 260 0))
 
 -- a refused call: nothing is taken, and all is as it was
 abbrev pub refusedCall : ℕ → Record → List ℕ → Outcome

@@ -193,14 +193,14 @@ fn clear(store: &mut [u8])
     }
 }
 
-// The fresh record of a kind, in a store of 260 bytes, which it fills with zeros.
+// The fresh record of a kind: its store is the first 260 bytes of the one lent, filled with zeros; bytes past them stay.
 pub fn fresh(kind: Kind, store: &mut [u8]) -> Made
     ensures { λ r. ⌜ (paperMade r (now (store .exit)), now (store .exit)) ≡ freshOf kind (now (store .entry)) ⌝ }
 {
-    if store.len() != 260 {
+    if store.len() < 260 {
         return Made::Refused(Refusal::NoRoom);
     }
-    clear(store);
+    clear(&mut store[..260]);
     Made::Fresh(outside(kind))
 }
 

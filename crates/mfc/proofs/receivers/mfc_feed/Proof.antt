@@ -1,8 +1,8 @@
 -- `mfc::receivers::mfc_feed` meets its contract. Assumes nothing.
 use borrow.Author.Needs.{needs}
-use Prim.Native.Nat.{ℕ, _≤_}
+use Prim.Native.Nat.{ℕ, _≤_, _<_}
 use mathlib.Core.List.{List}
-use lib.ListN.{length}
+use lib.ListN.{length, getD}
 use Rattle.mfc.proofs.Heads.{loaded-long}
 use Rattle.mfc.proofs.Lent.{feed-bad, feed-held, stored-long}
 use Rattle.mfc.proofs.receivers.mfc_feed.Statement.{statement}
@@ -13,6 +13,9 @@ lent c = c .before .before .before .before .before .before .before .before .args
 
 long : (c : tie.After-known-told) → 264 ≤ length (lent c)
 long c = loaded-long _ (c .before .before .before .load .ensures) (c .before .r .given .1)
+
+byte : (c : tie.After-known-told) (i : ℕ) → getD (lent c) i 0 < 256
+byte c i = c .before .before .before .before .before .before .before .slice-known .given i .fits
 
 pub mfc-feed-spec : {M : Type 1} → statement M
 mfc-feed-spec =
@@ -39,5 +42,5 @@ mfc-feed-spec =
     let p = c .before .before .before in
     let f = p .before .before .before .before .before .before .before in
     let t = f .before .before .before in
-    feed-held _ (t .before .before .before .load .ensures) _ _ (f .feed .result) (long t) (t .before .r .given .1) (f .feed .kept .1 .0)
+    feed-held _ (t .before .before .before .load .ensures) _ _ (f .feed .result) (byte t) (long t) (t .before .r .given .1) (f .feed .kept .1 .0)
     (f .feed .ensures) (p .put-place .ensures) (c .of-answer2 .ensures)))

@@ -1,15 +1,22 @@
 -- `mfc::receivers::mfc_silence` meets its contract. Assumes nothing.
 use borrow.Author.Needs.{needs}
 use native.Mathlib.Omega.{arith}
-use Prim.Native.Nat.{_≤_}
-use lib.ListN.{length}
+use Prim.Native.Nat.{ℕ, _≤_, _<_}
+use mathlib.Core.List.{List}
+use lib.ListN.{length, getD}
 use Rattle.mfc.proofs.Heads.{loaded-long}
 use Rattle.mfc.proofs.Lent.{silence-bad, silence-held}
 use Rattle.mfc.proofs.receivers.mfc_silence.Statement.{statement}
 use Rattle.mfc.proofs.receivers.mfc_silence.Tie as tie
 
-long : (c : tie.After-known-told) → 264 ≤ length (c .before .before .before .before .before .before .args .«record» .now)
+abbrev lent : tie.After-known-told → List ℕ
+lent c = c .before .before .before .before .before .before .args .«record» .now
+
+long : (c : tie.After-known-told) → 264 ≤ length (lent c)
 long c = loaded-long _ (c .before .before .before .load .ensures) (c .before .r .given .1)
+
+byte : (c : tie.After-known-told) (i : ℕ) → getD (lent c) i 0 < 256
+byte c i = c .before .before .before .before .before .slice-known .given i .fits
 
 pub mfc-silence-spec : {M : Type 1} → statement M
 mfc-silence-spec =
@@ -32,5 +39,5 @@ mfc-silence-spec =
     let p = c .before .before .before in
     let q = p .before .before .before in
     let t = q .before .before .before in
-    silence-held _ (t .before .before .before .load .ensures) (q .silence .result) (long t) (t .before .r .given .1) (q .silence .ensures)
+    silence-held _ (t .before .before .before .load .ensures) (q .silence .result) (byte t) (long t) (t .before .r .given .1) (q .silence .ensures)
     (p .put-place .ensures) (c .refusal-in .ensures)))
