@@ -1,5 +1,5 @@
--- The C interface, a receiver: "The record crosses as the first 264 bytes of a lent slice: kind (0 request, 1 reply), mode (0 outside,
--- 1 plain, 2 escaped, 3 and 4 the refusal found), length (high byte, low byte), store." What each of the three calls gives.
+-- The C interface, a receiver. Its record is the first 264 bytes of a lent slice: the kind (0 request, 1 reply), the mode (0 outside, 1
+-- plain, 2 escaped, 3 and 4 the refusal found), the length (high byte, low byte), the store. What each of the three calls gives.
 use Prim.Native.Nat.{ℕ, zero, suc, _+_, _*_, _/_, _%_}
 use mathlib.Core.Bool.{cond}
 use mathlib.Core.List.{List, [], _∷_, _++_}
@@ -28,7 +28,7 @@ nth [] n = none
 nth (x ∷ xs) zero = some x
 nth (x ∷ xs) (suc n) = nth xs n
 
--- "kind (0 request, 1 reply)"
+-- the kinds by number: 0 request, 1 reply
 abbrev pub numberOfKind : Kind → ℕ
 numberOfKind Request = 0
 numberOfKind Reply = 1
@@ -36,11 +36,11 @@ numberOfKind Reply = 1
 abbrev pub kindAt : ℕ → Option Kind
 kindAt n = nth (Request ∷ Reply ∷ []) n
 
--- "mode (0 outside, 1 plain, 2 escaped, 3 and 4 the refusal found)"
+-- the modes by number, as `numberOfMode` has them
 abbrev pub modeAt : ℕ → Option Mode
 modeAt n = nth (Outside ∷ Plain ∷ Escaped ∷ BadEscape ∷ BareControl ∷ []) n
 
--- a record's bytes: "kind, mode, length (high byte, low byte), store"
+-- a record's bytes: kind, mode, length (high byte, low byte), store
 abbrev pub headOf : Kind → Mode → ℕ → List ℕ
 headOf kind mode len = numberOfKind kind ∷ numberOfMode mode ∷ len / 256 % 256 ∷ len % 256 ∷ []
 
@@ -93,7 +93,7 @@ refusalIn nothing = 0
 refusalIn (gave (served n)) = 0
 refusalIn (gave (refused n)) = numberIn n
 
--- "A slice under 264 bytes is refusal 1 for `fresh` [..] `fresh` of another kind is 12, after 1; it fills the store with zeros."
+-- a fresh record: 1 under 264 bytes, then 12 for a number of no kind; else the record's bytes at the start, and all else as it was
 abbrev pub freshAs : Option Kind → List ℕ → ℕ × List ℕ
 freshAs none lent = (12, lent)
 freshAs (some kind) lent = (0, overlay lent 0 (bytesOf (fresh kind)))
@@ -101,7 +101,8 @@ freshAs (some kind) lent = (0, overlay lent 0 (bytesOf (fresh kind)))
 unfoldable pub freshRecord : ℕ → List ℕ → ℕ × List ℕ
 freshRecord kind lent = cond (ltb (length lent) 264) (1, lent) (freshAs (kindAt kind) lent)
 
--- "and 2 for the others; bytes past 264 are not touched": the answer, the lent record and the lent frame afterwards
+-- a feeding call: the answer, the lent record and the lent frame afterwards. "A record outside its stated ranges is refusal 2, checked
+-- first, and comes back as it was."
 abbrev pub fedBytes : Outcome → List ℕ → MfcFed × List ℕ × List ℕ
 fedBytes o lent = (fed (o .result .said) (o .result .taken), overlay lent 0 (bytesOf (o .leaves)), o .result .buffer)
 
@@ -112,7 +113,7 @@ feedAs (some r) lent piece frame = fedBytes (feedOf r piece frame) lent
 unfoldable pub feedRecord : List ℕ → List ℕ → List ℕ → MfcFed × List ℕ × List ℕ
 feedRecord lent piece frame = feedAs (recordIn lent) lent piece frame
 
--- a silence mark: the answer, and the lent record afterwards
+-- a silence mark: the answer, and the lent record afterwards; 2 as above
 abbrev pub silenceAs : Option Record → List ℕ → ℕ × List ℕ
 silenceAs none lent = (2, lent)
 silenceAs (some r) lent = (refusalIn (silenceOf r .result .said), overlay lent 0 (bytesOf (silenceOf r .leaves)))

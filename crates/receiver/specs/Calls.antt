@@ -1,4 +1,6 @@
--- The models of the calls: what each gives for every record, piece and lent buffer.
+-- What each call gives for every record, piece and lent buffer. To be believed are the words of an answer, `freshOf`, and that `feedOf`
+-- and `silenceOf` give refusal 2, with all as it was, exactly for a record that is not in range. The rest is the model of the code: demand 3
+-- (Series.antt) ties it to the stream.
 use Prim.Native.Nat.{ℕ, _+_}
 use mathlib.Core.Bool.{Bool, true, false, cond, _&&_}
 use mathlib.Core.List.{List, [], _∷_}

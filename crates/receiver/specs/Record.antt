@@ -1,4 +1,6 @@
 -- The receiver's record: its ranges, the fresh record of each kind, and what a byte or a silence mark does to it (docs/RECORD.md).
+-- To be believed are the record, its ranges and the fresh record, up to `fresh`. What follows is the model of the code: demand 3
+-- (Series.antt) says what comes of it for every series of calls, and every record within the ranges is left by some stream (`reached`).
 use Prim.Native.Nat.{ℕ, _+_}
 use mathlib.Core.Bool.{Bool, true, false, cond, _&&_}
 use mathlib.Core.List.{List, [], _∷_}
@@ -100,7 +102,7 @@ pendingIn BareControl n = true
 abbrev pub pending : Record → Bool
 pending r = pendingIn (r .mode) (r .len)
 
--- the item of a stretch that a 7E ends here
+-- the item of a stretch that a 7E ends here; outside there is none, and the value there is never asked for
 abbrev pub itemIn : Mode → Kind → ℕ → List ℕ → Item
 itemIn Outside kind n store = refused (number 3)
 itemIn Plain kind n store = cond (ltb 260 n) (refused (number 5)) (checkBody kind (take n store))

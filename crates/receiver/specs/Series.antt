@@ -1,4 +1,5 @@
--- 01, What a stream means, demand 3: one claim over every series of calls with one receiver.
+-- 01, What a stream means, demand 3: one claim over every series of calls with one receiver. To be believed is what a series is and what
+-- it must give, up to `expectedFrom`; what follows is what the calls do give, and the claim.
 use Prim.Native.Nat.{ℕ, _≤_}
 use mathlib.Core.Path.{_≡_}
 use mathlib.Core.Bool.{Bool, true, false, cond}
