@@ -17,8 +17,7 @@ use Rattle.shdlc.specs.declared.Kind.the-variants.{Request, Reply}
 use Rattle.receiver.specs.declared.Mode.{Mode}
 use Rattle.receiver.specs.declared.Mode.the-variants.{Outside, Plain, Escaped, BadEscape, BareControl}
 use Rattle.receiver.specs.Record.{Record, numberOfMode, lengthInRange, inRange}
-use Rattle.receiver.specs.Calls.{feedOf}
-use Rattle.mfc.specs.Receivers.{numberOfKind, kindAt, modeAt, bytesOf, storeIn, fieldsIn, recordIn, fedBytes, feedAs, feedRecord, silenceAs, silenceRecord}
+use Rattle.mfc.specs.Receivers.{numberOfKind, kindAt, modeAt, bytesOf, storeIn, fieldsIn, recordIn, feedAs, feedRecord, silenceAs, silenceRecord}
 
 pub kind-back : (kind : Kind) → kindAt (numberOfKind kind) ≡ some kind
 kind-back Request = refl
@@ -68,7 +67,7 @@ module _ (lent : List ℕ) (r : Record) (long : 264 ≤ length lent) (good : inR
   unfolding recordIn
   found-again = rw (fields-again, good)
 
-  pub feed-again : (piece frame : List ℕ) → feedRecord (overlay lent 0 (bytesOf r)) piece frame ≡ fedBytes (feedOf r piece frame) (overlay lent 0 (bytesOf r))
+  pub feed-again : (piece frame : List ℕ) → feedRecord (overlay lent 0 (bytesOf r)) piece frame ≡ feedAs (some r) (overlay lent 0 (bytesOf r)) piece frame
   unfolding feedRecord
   feed-again piece frame = ap (λ (o : Option Record). feedAs o (overlay lent 0 (bytesOf r)) piece frame) found-again
 

@@ -4,7 +4,8 @@ use mathlib.Core.Bool.{Bool, true, false, cond}
 use mathlib.Core.List.{List, [], _∷_, _++_, map}
 use Prim.Native.Nat.{ℕ, _+_, _≤_}
 use native.Mathlib.Omega.{arith}
-use borrow.Author.Tests.{le-ltb}
+use borrow.Author.Tests.{le-ltb, ltb-true}
+use lib.Dec.{ltb}
 use lib.ListN.{length, take, drop}
 use lib.Seq.{drop-append-seam, take-at}
 use Rattle.refusal.specs.Refusals.{number, refused}
@@ -14,10 +15,10 @@ use Rattle.shdlc.specs.Stream.{Event}
 use Rattle.receiver.specs.Record.{Record, inRange, pending, fresh, recordOf}
 use Rattle.receiver.specs.Calls.{nothing, gave, Result, Outcome, feedOf, silenceOf}
 use Rattle.receiver.specs.Series.{Call, feeding, silence, outcome, results, recordAfter, streamOf, expectedFrom, Demand3}
-use Rattle.receiver.proofs.Cases.{quiet, silence-said}
+use Rattle.receiver.proofs.Cases.{feed-room, quiet, silence-said}
 use Rattle.receiver.proofs.EverySeries.{demand3}
 use Rattle.mfc.specs.declared.answers.MfcFed.{MfcFed}
-use Rattle.mfc.specs.Receivers.{numberOfKind, bytesOf, fed, refusalIn, freshRecord}
+use Rattle.mfc.specs.Receivers.{numberOfKind, bytesOf, fed, refusalIn, freshRecord, untouched}
 use Rattle.mfc.specs.Series.{marked, called, answers, bytesAfter, told, begun, laidIn, SeriesOverBytes}
 use Rattle.mfc.proofs.Carried.{kind-back, in-range, feed-again, silence-again}
 
@@ -58,7 +59,12 @@ module _ (lent : List ℕ) (long : 264 ≤ length lent) (r : Record) (good : inR
       (over-again lent (bytesOf r) (bytesOf (o .leaves)) (same-size r (o .leaves) good h))
 
   on-call : (call : Call) → inRange (outcome r call .leaves) ≡ true → called bytes call ≡ onRecord lent (outcome r call)
-  on-call (feeding piece frame) h = feed-again lent r long good piece frame ∙ put-over (feedOf r piece frame) h
+  on-call (feeding piece frame) h = feed-again lent r long good piece frame ∙ go (ltb (length frame) 260) refl
+    where
+      go : (t : Bool) → ltb (length frame) 260 ≡ t
+          → cond t (untouched 1 bytes frame) (onRecord bytes (feedOf r piece frame)) ≡ onRecord lent (feedOf r piece frame)
+      go true e = ap (onRecord lent) (sym (feed-room r piece frame good (ltb-true _ _ e)))
+      go false e = put-over (feedOf r piece frame) h
   on-call silence h =
       ap marked (silence-again lent r long good)
       ∙ ap (markOn bytes) (silence-said r good)

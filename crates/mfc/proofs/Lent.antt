@@ -5,7 +5,8 @@ use mathlib.Core.List.{List, [], _∷_, _++_}
 use mathlib.Core.Option.{Option, none, some}
 use Prim.Native.Nat.{ℕ, _+_, _*_, _/_, _%_, _≤_, _<_}
 use native.Mathlib.Omega.{arith}
-use borrow.Author.Tests.{lt-ltb, le-ltb}
+use borrow.Author.Tests.{lt-ltb, le-ltb, ltb-true}
+use lib.Dec.{ltb}
 use lib.ListN.{length, getD, take, drop, replicate, length-take, length-drop, length-replicate, take-append-drop}
 use lib.Seq.{take-all}
 use Rattle.refusal.specs.Refusals.{number, numberOf, paper, Answered, served, refused}
@@ -21,14 +22,14 @@ use Rattle.receiver.specs.declared.Quiet.{Quiet}
 use Rattle.receiver.specs.declared.Made.{Made}
 use Rattle.receiver.specs.declared.Made.the-variants as made
 use Rattle.receiver.specs.Record.{Record, held, inRange, fresh}
-use Rattle.receiver.specs.Calls.{gave, Outcome, paperAnswer, paperFed, paperQuiet, paperMade, freshOf, feedOf, silenceOf}
-use Rattle.receiver.proofs.Cases.{feed-range, silence-range, kind-fed, kind-quiet}
+use Rattle.receiver.specs.Calls.{gave, Outcome, paperAnswer, paperFed, paperQuiet, paperMade, freshOf, refusedCall, feedOf, silenceOf}
+use Rattle.receiver.proofs.Cases.{feed-range, feed-room, silence-range, kind-fed, kind-quiet}
 use Rattle.mfc.specs.declared.answers.MfcFed.{MfcFed}
 use Rattle.mfc.specs.declared.receivers.KindAt.{KindAt}
 use Rattle.mfc.specs.declared.receivers.KindAt.the-variants as kinds
 use Rattle.mfc.specs.declared.receivers.Loaded.{Loaded}
 use Rattle.mfc.specs.declared.receivers.Loaded.the-variants as loaded
-use Rattle.mfc.specs.Receivers.{numberOfKind, kindAt, headOf, bytesOf, storeIn, fieldsIn, ranged, recordIn, paperKind, paperLoaded, fed, refusalIn, freshAs, freshRecord, fedBytes, feedAs, feedRecord, silenceAs, silenceRecord}
+use Rattle.mfc.specs.Receivers.{numberOfKind, kindAt, headOf, bytesOf, storeIn, fieldsIn, ranged, recordIn, paperKind, paperLoaded, fed, refusalIn, freshAs, freshRecord, fedBytes, untouched, feedAs, feedRecord, silenceAs, silenceRecord}
 use Rattle.mfc.proofs.Heads.{placeOf, Spells, spells, holds}
 
 -- the lent bytes with another store
@@ -101,15 +102,29 @@ module _ (lent : List ℕ) (byte : (i : ℕ) → getD lent i 0 < 256) (r : Recor
   abbrev back : overlay lent 0 (bytesOf r) ≡ lent
   back = put-back lent r byte (spells lent r e)
 
-  feed-fields : (piece frame : List ℕ) → fedBytes (feedOf r piece frame) lent ≡ feedRecord lent piece frame
-  unfolding feedRecord recordIn
-  feed-fields piece frame = go (inRange r) refl ∙ ap (λ (o : Option Record). feedAs (ranged o) lent piece frame) e
-    where
-      go : (t : Bool) → inRange r ≡ t → fedBytes (feedOf r piece frame) lent ≡ feedAs (cond t (some r) none) lent piece frame
-      go true h = refl
-      go false h =
-          ap (λ (o : Outcome). fedBytes o lent) (feed-range r piece frame h)
-          ∙ ap (λ (l : List ℕ). (fed (gave (refused (number 2))) 0, l, frame)) back
+  module _ (piece frame : List ℕ) where
+    feed-back : (n : ℕ) → feedOf r piece frame ≡ refusedCall n r frame → fedBytes (feedOf r piece frame) lent ≡ untouched n lent frame
+    feed-back n h = ap (λ (o : Outcome). fedBytes o lent) h ∙ ap (λ (l : List ℕ). untouched n l frame) back
+
+    feed-tests : (t u : Bool) → inRange r ≡ t → ltb (length frame) 260 ≡ u
+        → fedBytes (feedOf r piece frame) lent
+        ≡ cond t (cond u (untouched 1 lent frame) (fedBytes (feedOf r piece frame) lent)) (untouched 2 lent frame)
+    feed-tests true true h g = feed-back 1 (feed-room r piece frame h (ltb-true _ _ g))
+    feed-tests true false h g = refl
+    feed-tests false u h g = feed-back 2 (feed-range r piece frame h)
+
+    feed-cases : (t : Bool)
+        → cond t (cond (ltb (length frame) 260) (untouched 1 lent frame) (fedBytes (feedOf r piece frame) lent)) (untouched 2 lent frame)
+        ≡ feedAs (cond t (some r) none) lent piece frame
+    feed-cases true = refl
+    feed-cases false = refl
+
+    feed-fields : fedBytes (feedOf r piece frame) lent ≡ feedRecord lent piece frame
+    unfolding feedRecord recordIn
+    feed-fields =
+        feed-tests (inRange r) (ltb (length frame) 260) refl refl
+        ∙ feed-cases (inRange r)
+        ∙ ap (λ (o : Option Record). feedAs (ranged o) lent piece frame) e
 
   silence-fields : silenceAs (some r) lent ≡ silenceRecord lent
   unfolding silenceRecord recordIn

@@ -101,14 +101,18 @@ freshAs (some kind) lent = (0, overlay lent 0 (bytesOf (fresh kind)))
 unfoldable pub freshRecord : ℕ → List ℕ → ℕ × List ℕ
 freshRecord kind lent = cond (ltb (length lent) 264) (1, lent) (freshAs (kindAt kind) lent)
 
--- a feeding call: the answer, the lent record and the lent frame afterwards. "A record outside its stated ranges is refusal 2, checked
--- first, and comes back as it was."
+-- what a call on a record gives: the answer, the lent record and the lent frame afterwards
 abbrev pub fedBytes : Outcome → List ℕ → MfcFed × List ℕ × List ℕ
 fedBytes o lent = (fed (o .result .said) (o .result .taken), overlay lent 0 (bytesOf (o .leaves)), o .result .buffer)
 
+-- a feeding call. "A record outside its stated ranges is refusal 2, checked first, and comes back as it was." "A feeding call lent under
+-- 260 bytes is refused with 1 and adds nothing; the record comes back as it was."
+abbrev pub untouched : ℕ → List ℕ → List ℕ → MfcFed × List ℕ × List ℕ
+untouched n lent frame = (fed (gave (refused (number n))) 0, lent, frame)
+
 abbrev pub feedAs : Option Record → List ℕ → List ℕ → List ℕ → MfcFed × List ℕ × List ℕ
-feedAs none lent piece frame = (fed (gave (refused (number 2))) 0, lent, frame)
-feedAs (some r) lent piece frame = fedBytes (feedOf r piece frame) lent
+feedAs none lent piece frame = untouched 2 lent frame
+feedAs (some r) lent piece frame = cond (ltb (length frame) 260) (untouched 1 lent frame) (fedBytes (feedOf r piece frame) lent)
 
 unfoldable pub feedRecord : List ℕ → List ℕ → List ℕ → MfcFed × List ℕ × List ℕ
 feedRecord lent piece frame = feedAs (recordIn lent) lent piece frame
