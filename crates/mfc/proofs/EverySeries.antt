@@ -4,22 +4,22 @@ use mathlib.Core.Bool.{Bool, true, false, cond}
 use mathlib.Core.List.{List, [], _∷_, _++_, map}
 use Prim.Native.Nat.{ℕ, _+_, _≤_}
 use native.Mathlib.Omega.{arith}
-use borrow.Author.Tests.{le-ltb, ltb-true}
+use borrow.Author.Tests.{le-ltb, ltb-true, ne-eqb}
 use lib.Dec.{ltb}
 use lib.ListN.{length, take, drop}
 use lib.Seq.{drop-append-seam, take-at}
-use Rattle.refusal.specs.Refusals.{number, refused}
+use Rattle.refusal.specs.Refusals.{number, numberIn, served, refused}
 use Rattle.refusal.specs.Room.{overlay}
 use Rattle.shdlc.specs.declared.Kind.{Kind}
-use Rattle.shdlc.specs.Stream.{Event}
+use Rattle.shdlc.specs.Stream.{Event, items}
 use Rattle.receiver.specs.Record.{Record, inRange, pending, fresh, recordOf}
-use Rattle.receiver.specs.Calls.{nothing, gave, Result, Outcome, feedOf, silenceOf}
-use Rattle.receiver.specs.Series.{Call, feeding, silence, outcome, results, recordAfter, streamOf, expectedFrom, Demand3}
+use Rattle.receiver.specs.Calls.{Said, nothing, gave, Result, Outcome, feedOf, silenceOf}
+use Rattle.receiver.specs.Series.{Call, feeding, silence, outcome, results, recordAfter, reported, reports, streamOf, expectedFrom}
 use Rattle.receiver.proofs.Cases.{feed-room, quiet, silence-said}
-use Rattle.receiver.proofs.EverySeries.{demand3}
+use Rattle.receiver.proofs.EverySeries.{Sayable, AllSayable, all-sayable, demand3}
 use Rattle.mfc.specs.declared.answers.MfcFed.{MfcFed}
 use Rattle.mfc.specs.Receivers.{numberOfKind, bytesOf, fed, refusalIn, freshRecord, untouched}
-use Rattle.mfc.specs.Series.{marked, called, answers, bytesAfter, told, begun, laidIn, SeriesOverBytes}
+use Rattle.mfc.specs.Series.{marked, called, answers, bytesAfter, told, heard, heardIn, NoneTold2, begun, laidIn, SeriesOverBytes}
 use Rattle.mfc.proofs.Carried.{kind-back, in-range, feed-again, silence-again}
 
 -- a record's bytes over another's: what is left is the last
@@ -71,6 +71,28 @@ module _ (lent : List ℕ) (long : 264 ≤ length lent) (r : Record) (good : inR
       ∙ mark-told bytes r (pending r)
       ∙ ap (onRecord bytes) (sym (silence-said r good))
       ∙ put-over (silenceOf r) h
+
+-- C can tell from an answer what it reports
+heard-said : (s : Said) (taken : ℕ) (buffer : List ℕ) → Sayable s
+    → heard (told (record { said = s; taken = taken; buffer = buffer })) ≡ reported s buffer
+heard-said nothing taken buffer h = refl
+heard-said (gave (served n)) taken buffer h = rw (ne-eqb n 0 (λ e. omega (arith, h)))
+heard-said (gave (refused n)) taken buffer h = let k = h .0 in rw (h .1, ne-eqb k 0 (λ e. omega (arith, h .2)))
+
+heard-all : (rs : List Result) → AllSayable rs → heardIn (map told rs) ≡ reports rs
+unfolding AllSayable heardIn reports
+heard-all [] h = refl
+heard-all (r ∷ rs) h = rw (heard-said (r .said) (r .taken) (r .buffer) (h .0), heard-all rs (h .1))
+
+not-told-2 : (s : Said) (taken : ℕ) → Sayable s → fed s taken .refusal ≡ 2 → ⊥
+not-told-2 nothing taken h e = omega arith
+not-told-2 (gave (served n)) taken h e = omega arith
+not-told-2 (gave (refused n)) taken h e = h .3 (sym (ap numberIn (h .1)) ∙ e)
+
+none-told-2 : (rs : List Result) → AllSayable rs → NoneTold2 (map told rs)
+unfolding AllSayable NoneTold2
+none-told-2 [] h = tt
+none-told-2 (r ∷ rs) h = (not-told-2 (r .said) (r .taken) (h .0), none-told-2 rs (h .1))
 
 -- a series after another
 after-append : (done calls : List Call) (r : Record) → recordAfter r (done ++ calls) ≡ recordAfter (recordAfter r done) calls
@@ -128,8 +150,18 @@ module _ (kind : Kind) (lent : List ℕ) (long : 264 ≤ length lent) where
   unfolding recordAfter
   fresh-laid = begins ∙ ap (λ (l : List ℕ). (0, l)) (laid-in (fresh kind) (in-ranges []))
 
+  given : (calls : List Call) → answers (begun kind lent) calls ≡ map told (results (fresh kind) calls)
+  given calls = ap (λ (l : List ℕ). answers l calls) fresh-bytes ∙ from-fresh calls .gives
+
   each : (calls : List Call) → answers (begun kind lent) calls ≡ map told (expectedFrom kind [] calls)
-  each calls = ap (λ (l : List ℕ). answers l calls) fresh-bytes ∙ from-fresh calls .gives ∙ ap (map told) (demand3 kind .each-call calls)
+  each calls = given calls ∙ ap (map told) (demand3 kind .each-call calls)
+
+  none-2 : (calls : List Call) → NoneTold2 (answers (begun kind lent) calls)
+  none-2 calls = rw (given calls) (none-told-2 (results (fresh kind) calls) (all-sayable kind calls))
+
+  all-heard : (calls : List Call) → heardIn (answers (begun kind lent) calls) ≡ items kind (streamOf kind calls)
+  all-heard calls =
+      ap heardIn (given calls) ∙ heard-all (results (fresh kind) calls) (all-sayable kind calls) ∙ demand3 kind .all-items calls
 
   end : (calls : List Call) → bytesAfter (begun kind lent) calls ≡ laidIn lent (leftBy calls)
   end calls =
@@ -148,6 +180,8 @@ series-over-bytes kind =
     record {
       fresh-record = fresh-laid kind;
       each-call = each kind;
+      never-2 = none-2 kind;
+      all-items = all-heard kind;
       end-record = end kind;
       one-record =
           λ lent other long big calls others same.

@@ -9,7 +9,7 @@ use borrow.Author.Tests.{lt-ltb, le-ltb, ltb-true}
 use lib.Dec.{ltb}
 use lib.ListN.{length, getD, take, drop, replicate, length-take, length-drop, length-replicate, take-append-drop}
 use lib.Seq.{take-all}
-use Rattle.refusal.specs.Refusals.{number, numberOf, paper, Answered, served, refused}
+use Rattle.refusal.specs.Refusals.{numberOf, paper, Answered, served, refused}
 use Rattle.refusal.specs.Room.{overlay}
 use Rattle.refusal.specs.declared.Refusal.{Refusal}
 use Rattle.refusal.specs.declared.Refusal.the-variants.{NoRoom, OutOfRange, BadRecord}

@@ -1,9 +1,13 @@
 -- The C interface, every series of calls with one receiver: demand 3 over the record's bytes.
 use Prim.Native.Nat.{ℕ, _≤_}
 use mathlib.Core.Path.{_≡_}
+use mathlib.Core.Bool.{cond}
 use mathlib.Core.List.{List, [], _∷_, _++_, map}
+use lib.Dec.{eqb}
 use lib.ListN.{length, take, drop}
+use Rattle.refusal.specs.Refusals.{number, served, refused}
 use Rattle.shdlc.specs.declared.Kind.{Kind}
+use Rattle.shdlc.specs.Stream.{Item, items}
 use Rattle.receiver.specs.Record.{Record, fresh, recordOf}
 use Rattle.receiver.specs.Calls.{Result}
 use Rattle.receiver.specs.Series.{Call, feeding, silence, streamOf, expectedFrom}
@@ -31,6 +35,21 @@ bytesAfter lent (call ∷ calls) = bytesAfter (called lent call .1) calls
 abbrev pub told : Result → MfcFed × List ℕ
 told r = (fed (r .said) (r .taken), r .buffer)
 
+-- the item that an answer tells C of: a refusal but 1 by its number; a frame by its length, which is not 0, its body at the frame's start
+abbrev pub heard : MfcFed × List ℕ → List Item
+heard t =
+    cond (eqb (t .0 .refusal) 0)
+    (cond (eqb (t .0 .«frame_length») 0) [] (served (take (t .0 .«frame_length») (t .1)) ∷ []))
+    (cond (eqb (t .0 .refusal) 1) [] (refused (number (t .0 .refusal)) ∷ []))
+
+unfoldable pub heardIn : List (MfcFed × List ℕ) → List Item
+heardIn [] = []
+heardIn (t ∷ ts) = heard t ++ heardIn ts
+
+unfoldable pub NoneTold2 : List (MfcFed × List ℕ) → Type 0
+NoneTold2 [] = Unit {0}
+NoneTold2 (t ∷ ts) = (t .0 .refusal ≡ 2 → ⊥) × NoneTold2 ts
+
 -- what `mfc_receiver_fresh` leaves in lent bytes
 abbrev pub begun : Kind → List ℕ → List ℕ
 begun kind lent = freshRecord (numberOfKind kind) lent .1
@@ -39,13 +58,19 @@ begun kind lent = freshRecord (numberOfKind kind) lent .1
 abbrev pub laidIn : List ℕ → Record → List ℕ
 laidIn lent r = bytesOf r ++ drop 264 lent
 
--- Demand 3, for C: every series of calls after `mfc_receiver_fresh` over any 264 lent bytes or more.
+-- Demand 3, for C: every series of calls after `mfc_receiver_fresh` over any 264 lent bytes or more. What the receiver's own claim says of
+-- handing in again speaks of the bytes taken, which `each-call` says here too.
 pub record SeriesOverBytes (kind : Kind) : Type 0 where
   -- the series begins with the fresh record
   pub fresh-record : (lent : List ℕ) → 264 ≤ length lent → freshRecord (numberOfKind kind) lent ≡ (0, laidIn lent (fresh kind))
   -- each call's answer, the bytes it took and the lent frame afterwards are those that the stream says
   pub each-call : (lent : List ℕ) → 264 ≤ length lent → (calls : List Call)
       → answers (begun kind lent) calls ≡ map told (expectedFrom kind [] calls)
+  -- "Refusal 2 never comes in a series."
+  pub never-2 : (lent : List ℕ) → 264 ≤ length lent → (calls : List Call) → NoneTold2 (answers (begun kind lent) calls)
+  -- what C is told of, calls refused with 1 left out, is the stream's list
+  pub all-items : (lent : List ℕ) → 264 ≤ length lent → (calls : List Call)
+      → heardIn (answers (begun kind lent) calls) ≡ items kind (streamOf kind calls)
   -- the record's bytes at the end are a function of the kind and the stream
   pub end-record : (lent : List ℕ) → 264 ≤ length lent → (calls : List Call)
       → bytesAfter (begun kind lent) calls ≡ laidIn lent (recordOf kind (streamOf kind calls))

@@ -7,7 +7,7 @@ use mathlib.Core.List.{List, [], _∷_}
 use borrow.Author.Tests.{ltb-false, lt-ltb, le-ltb, eqb-true}
 use lib.Dec.{ltb, eqb}
 use lib.ListN.{length, getD, take}
-use Rattle.refusal.specs.Refusals.{Numbered, number, Answered, served, refused}
+use Rattle.refusal.specs.Refusals.{Numbered, number, served, refused}
 use Rattle.refusal.specs.Room.{overlay}
 use Rattle.refusal.proofs.Order.{refused-not-served, passed}
 use Rattle.shdlc.specs.declared.Kind.{Kind}

@@ -7,21 +7,22 @@ use mathlib.Core.List.{List, [], _∷_, _++_, map, append-assoc, append-nil}
 use lib.Dec.{ltb, eqb}
 use lib.ListN.{length, take, drop, getD, replicate, length-append, length-replicate, take-append-drop}
 use lib.Seq.{drop-append-seam}
-use borrow.Author.Tests.{ltb-true, ltb-false, lt-ltb, le-ltb, eqb-true}
-use Rattle.refusal.specs.Refusals.{Numbered, number, _carrying_, Answered, served, refused}
+use borrow.Author.Tests.{ltb-true, ltb-false, lt-ltb, le-ltb, ne-eqb}
+use Rattle.refusal.specs.Refusals.{number, served, refused}
 use Rattle.refusal.proofs.Room.{take-overlay}
 use Rattle.shdlc.specs.declared.Kind.{Kind}
+use Rattle.shdlc.specs.declared.Kind.the-variants.{Request, Reply}
 use Rattle.shdlc.specs.Checksum.{checksumOf}
 use Rattle.shdlc.specs.Body.{shortest, longest, lengthPlace, checkBody}
-use Rattle.shdlc.specs.Stream.{Event, byte, mark, Item, Place, outside, inside, next, gain, itemsFrom, items}
+use Rattle.shdlc.specs.Stream.{Event, byte, mark, Item, Place, outside, next, gain, itemsFrom, items}
 use Rattle.shdlc.proofs.Stream.{placeFrom, place-append, items-append, map-append}
 use Rattle.receiver.specs.declared.Mode.{Mode}
 use Rattle.receiver.specs.declared.Mode.the-variants.{Outside, Plain, Escaped, BadEscape, BareControl}
-use Rattle.receiver.specs.Record.{Record, inRange, fresh, opened, silenced, pending, itemIn, itemOf, nextByte, nextRecord, recordFrom, recordOf}
-use Rattle.receiver.specs.Calls.{Said, nothing, gave, Result, Outcome, saidOf, bufferOf, refusedCall, completed, unfinished, closes, Scan, scanFrom, fedBy, feedOf, silenceOf}
-use Rattle.receiver.specs.Series.{Call, feeding, silence, upTo, added, streamFrom, streamOf, gained, giving, expected, expectedFrom, outcome, results, recordAfter, isRoom, reported, reports, NoneRefused2, HandsIn, Demand3}
+use Rattle.receiver.specs.Record.{Record, fresh, opened, pending, itemIn, itemOf, nextByte, nextRecord, recordFrom, recordOf}
+use Rattle.receiver.specs.Calls.{Said, nothing, gave, Result, Outcome, saidOf, bufferOf, completed, unfinished, closes, Scan, scanFrom, feedOf}
+use Rattle.receiver.specs.Series.{Call, feeding, silence, upTo, added, streamFrom, streamOf, gained, giving, expected, expectedFrom, outcome, results, recordAfter, reported, reports, NoneRefused2, HandsIn, Demand3}
 use Rattle.receiver.proofs.Cases.{feed-room, feed-scan, silence-said, quiet}
-use Rattle.receiver.proofs.Simulation.{At, at-next, gains, at-gain, at-range, at-fresh}
+use Rattle.receiver.proofs.Simulation.{At, at-next, at-gain, at-range, at-fresh}
 
 abbrev placeOf : List Event → Place
 placeOf stream = placeFrom outside stream
@@ -149,25 +150,25 @@ scans kind (b ∷ piece) place r n h =
     (scans-byte kind place r n b h (closes r b) (upToAt kind (next place (byte b)) piece) (scanFrom (n + 1) (nextByte r b) piece) refl
     (scans kind piece (next place (byte b)) (nextRecord r (byte b)) (n + 1) (at-next kind place r (byte b) h)))
 
--- an item of a stream is a frame, or a refusal that is neither 1 nor 2
+-- an item of a stream is a frame with a byte, or a refusal from 3 on, which carries nothing
 abbrev Proper : Item → Type 0
-Proper (served body) = Unit {0}
-Proper (refused n) = (isRoom n ≡ false) × (n ≡ number 2 → ⊥)
+Proper (served body) = 1 ≤ length body
+Proper (refused n) = (k : ℕ) × (n ≡ number k) × (3 ≤ k)
 
 proper-number : (n : ℕ) → 3 ≤ n → Proper (refused (number n))
-proper-number n h = (go (eqb n 1) refl, λ e. let z : n ≡ 2 = cc in omega arith)
-  where
-    go : (t : Bool) → eqb n 1 ≡ t → eqb n 1 ≡ false
-    go true e = absurd (omega (arith, eqb-true n 1 e))
-    go false e = e
+proper-number n h = (n, refl, h)
 
-proper-checks : (a b c d : Bool) (body : List ℕ)
+proper-checks : (a b c d : Bool) (body : List ℕ) → (b ≡ false → 1 ≤ length body)
     → Proper (cond a (refused (number 5)) (cond b (refused (number 6)) (cond c (refused (number 7)) (cond d (refused (number 8)) (served body)))))
-proper-checks true b c d body = proper-number 5 (omega arith)
-proper-checks false true c d body = proper-number 6 (omega arith)
-proper-checks false false true d body = proper-number 7 (omega arith)
-proper-checks false false false true body = proper-number 8 (omega arith)
-proper-checks false false false false body = tt
+proper-checks true b c d body h = proper-number 5 (omega arith)
+proper-checks false true c d body h = proper-number 6 (omega arith)
+proper-checks false false true d body h = proper-number 7 (omega arith)
+proper-checks false false false true body h = proper-number 8 (omega arith)
+proper-checks false false false false body h = h refl
+
+shortest-some : (kind : Kind) → 1 ≤ shortest kind
+shortest-some Request = omega arith
+shortest-some Reply = omega arith
 
 proper-body : (kind : Kind) (body : List ℕ) → Proper (checkBody kind body)
 unfolding checkBody
@@ -175,6 +176,7 @@ proper-body kind body =
     proper-checks (ltb (longest kind) (length body)) (ltb (length body) (shortest kind))
     (not (eqb (getD body (lengthPlace kind) 0) (length body - shortest kind)))
     (not (eqb (getD body (length body - 1) 0) (checksumOf (take (length body - 1) body)))) body
+    (λ e. omega (arith, ltb-false (length body) (shortest kind) e, shortest-some kind))
 
 proper-long : (t : Bool) (i : Item) → Proper i → Proper (cond t (refused (number 5)) i)
 proper-long true i h = proper-number 5 (omega arith)
@@ -195,26 +197,49 @@ One (i ∷ l) = Proper i × (l ≡ [])
 -- what a call gives is reported again as what was gained
 report-item : (i : Item) (buffer : List ℕ) → Proper i → reported (saidOf i) (bufferOf i buffer) ≡ i ∷ []
 report-item (served body) buffer h = ap (λ (s : List ℕ). served s ∷ []) (take-overlay buffer body)
-report-item (refused n) buffer h = rw (h .0)
+report-item (refused n) buffer h = let k = h .0 in rw (h .1, ne-eqb k 1 (λ e. omega (arith, h .2)))
 
 reports-back : (g : List Item) (n : ℕ) (buffer : List ℕ) → One g → reported (giving g n buffer .said) (giving g n buffer .buffer) ≡ g
 reports-back [] n buffer h = refl
 reports-back (i ∷ l) n buffer h = report-item i buffer (h .0) ∙ ap (λ (x : List Item). i ∷ x) (sym (h .1))
 
-item-not-2 : (i : Item) → Proper i → saidOf i ≡ gave (refused (number 2)) → ⊥
-item-not-2 (served body) h e = let z : _≡_ {A = ℕ} 0 1 = cc in omega arith
-item-not-2 (refused n) h e = h .1 (let z : n ≡ number 2 = cc in z)
+-- what a call says in a series: nothing yet, a frame with a byte, or a refusal by a number that is neither 0 nor 2
+abbrev pub Sayable : Said → Type 0
+Sayable nothing = Unit {0}
+Sayable (gave (served n)) = 1 ≤ n
+Sayable (gave (refused n)) = (k : ℕ) × (n ≡ number k) × (1 ≤ k) × (k ≡ 2 → ⊥)
 
-never-refused-2 : (g : List Item) (n : ℕ) (buffer : List ℕ) → One g → giving g n buffer .said ≡ gave (refused (number 2)) → ⊥
-never-refused-2 [] n buffer h e = let z : _≡_ {A = ℕ} 0 1 = cc in omega arith
-never-refused-2 (i ∷ l) n buffer h e = item-not-2 i (h .0) e
+unfoldable pub AllSayable : List Result → Type 0
+AllSayable [] = Unit {0}
+AllSayable (result ∷ results) = Sayable (result .said) × AllSayable results
+
+sayable-item : (i : Item) → Proper i → Sayable (saidOf i)
+sayable-item (served body) h = h
+sayable-item (refused n) h = (h .0, h .1, omega (arith, h .2), λ e. omega (arith, h .2))
+
+sayable-giving : (g : List Item) (n : ℕ) (buffer : List ℕ) → One g → Sayable (giving g n buffer .said)
+sayable-giving [] n buffer h = tt
+sayable-giving (i ∷ l) n buffer h = sayable-item i (h .0)
+
+sayable-not-2 : (s : Said) → Sayable s → s ≡ gave (refused (number 2)) → ⊥
+sayable-not-2 nothing h e = let z : _≡_ {A = ℕ} 0 1 = cc in omega arith
+sayable-not-2 (gave (served n)) h e = let z : _≡_ {A = ℕ} 0 1 = cc in omega arith
+sayable-not-2 (gave (refused n)) h e =
+    let k : n ≡ number 2 = cc in
+    let same : number (h .0) ≡ number 2 = sym (h .1) ∙ k in
+    h .3 (let z : h .0 ≡ 2 = cc in z)
+
+none-2 : (rs : List Result) → AllSayable rs → NoneRefused2 rs
+unfolding AllSayable NoneRefused2
+none-2 [] h = tt
+none-2 (r ∷ rs) h = (sayable-not-2 (r .said) (h .0), none-2 rs (h .1))
 
 -- what a call gives is what its stream says
 record Meets (kind : Kind) (stream : List Event) (r : Record) (call : Call) : Type 0 where
   gives : outcome r call .result ≡ expected kind stream call
   leaves : outcome r call .leaves ≡ recordFrom r (added kind stream call)
   reports : reported (expected kind stream call .said) (expected kind stream call .buffer) ≡ gained kind stream (added kind stream call)
-  not-2 : expected kind stream call .said ≡ gave (refused (number 2)) → ⊥
+  says : Sayable (expected kind stream call .said)
 
 -- the outcome of a scan
 one-shown : (t : Bool) (r : Record) → One (cond t (itemOf r ∷ []) [])
@@ -257,7 +282,7 @@ module _ (kind : Kind) (stream : List Event) (r : Record) (h : At kind (placeOf 
         gives = rw g (ap (λ (x : Outcome). x .result) q ∙ quiet-result (pending r) r);
         leaves = ap (λ (x : Outcome). x .leaves) q;
         reports = rw g (reports-back (cut (pending r)) 0 [] (one-cut (pending r)));
-        not-2 = rw g (never-refused-2 (cut (pending r)) 0 [] (one-cut (pending r)));
+        says = rw g (sayable-giving (cut (pending r)) 0 [] (one-cut (pending r)));
       }
 
   module _ (piece buffer : List ℕ) where
@@ -270,7 +295,7 @@ module _ (kind : Kind) (stream : List Event) (r : Record) (h : At kind (placeOf 
           gives = rw e (ap (λ (x : Outcome). x .result) f);
           leaves = rw e (ap (λ (x : Outcome). x .leaves) f);
           reports = rw e (sym (gained-at kind stream []));
-          not-2 = rw e (λ q. let z : _≡_ {A = ℕ} 1 2 = cc in omega arith);
+          says = rw e (1, refl, omega arith, λ q. omega arith);
         }
 
     meets-large : 260 ≤ length buffer → Meets kind stream r (feeding piece buffer)
@@ -296,7 +321,7 @@ module _ (kind : Kind) (stream : List Event) (r : Record) (h : At kind (placeOf 
               (ap (λ (x : Outcome). x .leaves) f ∙ fed-leaves (s .closed) (s .before) (s .taken) buffer ∙ q .leaves
               ∙ sym (ap (λ (x : List ℕ). recordFrom r (map byte x)) u));
           reports = rw (e, g) (reports-back (shown s) _ buffer (one-shown (s .closed) (s .before)));
-          not-2 = rw (e, g) (never-refused-2 (shown s) _ buffer (one-shown (s .closed) (s .before)));
+          says = rw (e, g) (sayable-giving (shown s) _ buffer (one-shown (s .closed) (s .before)));
         }
 
   meets : (call : Call) → Meets kind stream r call
@@ -324,11 +349,11 @@ record Goes (kind : Kind) (stream : List Event) (r : Record) (calls : List Call)
   gives : results r calls ≡ expectedFrom kind stream calls
   leaves : recordAfter r calls ≡ recordOf kind (streamFrom kind stream calls)
   all-items : items kind stream ++ reports (expectedFrom kind stream calls) ≡ items kind (streamFrom kind stream calls)
-  not-2 : NoneRefused2 (expectedFrom kind stream calls)
+  says : AllSayable (expectedFrom kind stream calls)
 
 goes-call : (kind : Kind) (stream : List Event) (r : Record) (call : Call) (calls : List Call) → Meets kind stream r call
     → Goes kind (stream ++ added kind stream call) (outcome r call .leaves) calls → Goes kind stream r (call ∷ calls)
-unfolding results expectedFrom recordAfter streamFrom reports NoneRefused2
+unfolding results expectedFrom recordAfter streamFrom reports AllSayable
 goes-call kind stream r call calls m g =
     record {
       gives = rw (m .gives, g .gives);
@@ -340,12 +365,12 @@ goes-call kind stream r call calls m g =
             ← items-gained,
           )
           (g .all-items);
-      not-2 = (m .not-2, g .not-2);
+      says = (m .says, g .says);
     }
 
 goes : (kind : Kind) (calls : List Call) (stream : List Event) (r : Record) → r ≡ recordOf kind stream → Goes kind stream r calls
-unfolding results expectedFrom recordAfter streamFrom reports NoneRefused2
-goes kind [] stream r e = record { gives = refl; leaves = e; all-items = append-nil (items kind stream); not-2 = tt }
+unfolding results expectedFrom recordAfter streamFrom reports AllSayable
+goes kind [] stream r e = record { gives = refl; leaves = e; all-items = append-nil (items kind stream); says = tt }
 goes kind (call ∷ calls) stream r e =
     goes-call kind stream r call calls (meets-stream kind stream r e call)
     (goes kind calls (stream ++ added kind stream call) (outcome r call .leaves) (leaves-stream kind stream r e call))
@@ -448,12 +473,15 @@ hands-in kind (byte b ∷ left) stream r e =
     let t = hands-in kind left (stream ++ added kind stream call) (outcome r call .leaves) (leaves-stream kind stream r e call) in
     (call ∷ t .0, (left, refl, subst (λ (m : ℕ). HandsIn (feedOf r (b ∷ []) room .leaves) (map byte (drop m (b ∷ [])) ++ left) (t .0)) (sym one) (t .1)))
 
+pub all-sayable : (kind : Kind) (calls : List Call) → AllSayable (results (fresh kind) calls)
+all-sayable kind calls = let g = from-fresh kind calls in rw (g .gives) (g .says)
+
 pub demand3 : (kind : Kind) → Demand3 kind
 unfolding items itemsFrom
 demand3 kind =
     record {
       each-call = λ calls. from-fresh kind calls .gives;
-      never-2 = λ calls. let g = from-fresh kind calls in rw (g .gives) (g .not-2);
+      never-2 = λ calls. none-2 (results (fresh kind) calls) (all-sayable kind calls);
       all-items = λ calls. let g = from-fresh kind calls in rw (g .gives) (g .all-items);
       end-record = end kind;
       one-record = λ calls others same. end kind calls ∙ ap (recordOf kind) same ∙ sym (end kind others);

@@ -1,5 +1,5 @@
 -- The translations of `Calls` are one-to-one: a contract stated through one loses nothing. Assumes nothing.
-use mathlib.Core.Path.{_≡_, refl, sym, ap, _∙_}
+use mathlib.Core.Path.{_≡_, refl, sym, ap}
 use mathlib.Core.List.{List}
 use Prim.Native.Nat.{ℕ}
 use native.Mathlib.Omega.{arith}
@@ -7,8 +7,6 @@ use lib.ListN.{take}
 use Rattle.refusal.specs.Refusals.{Answered, served, refused, paper}
 use Rattle.refusal.proofs.OneToOne.{refused-one-to-one}
 use Rattle.refusal.proofs.Order.{refused-not-served}
-use Rattle.shdlc.specs.declared.Kind.{Kind}
-use Rattle.receiver.specs.declared.Mode.{Mode}
 use Rattle.receiver.specs.declared.Receiver.{Receiver}
 use Rattle.receiver.specs.declared.Answer.{Answer}
 use Rattle.receiver.specs.declared.Answer.the-variants as answer
@@ -16,8 +14,8 @@ use Rattle.receiver.specs.declared.Made.{Made}
 use Rattle.receiver.specs.declared.Made.the-variants as made
 use Rattle.receiver.specs.declared.Fed.{Fed}
 use Rattle.receiver.specs.declared.Quiet.{Quiet}
-use Rattle.receiver.specs.Record.{Record, held}
-use Rattle.receiver.specs.Calls.{Said, nothing, gave, Outcome, paperAnswer, paperFed, paperQuiet, paperMade}
+use Rattle.receiver.specs.Record.{held}
+use Rattle.receiver.specs.Calls.{nothing, gave, Outcome, paperAnswer, paperFed, paperQuiet, paperMade}
 
 pub held-one-to-one : (r s : Receiver) (store other : List ℕ) → held r store ≡ held s other → r ≡ s
 held-one-to-one r s store other e = λ i. record { kind = e i .kind; mode = e i .mode; len = e i .len }

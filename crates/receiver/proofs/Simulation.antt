@@ -7,7 +7,7 @@ use mathlib.Core.Bool.{Bool, true, false, cond, _&&_}
 use mathlib.Core.List.{List, [], _∷_, _++_, append-assoc, append-nil}
 use mathlib.Core.Option.{Option, none, some}
 use lib.Dec.{ltb, eqb}
-use lib.ListN.{length, take, set, length-append, length-set}
+use lib.ListN.{length, take, length-append, length-set}
 use lib.Seq.{take-all, take-suc-set, take-append-le}
 use borrow.Author.Tests.{ltb-true, ltb-false, lt-ltb, le-ltb, eq-eqb}
 use Rattle.refusal.specs.Refusals.{number, Answered, served, refused}
@@ -20,7 +20,7 @@ use Rattle.shdlc.specs.Stream as Stream
 use Rattle.shdlc.proofs.Body.{body-long}
 use Rattle.receiver.specs.declared.Mode.{Mode}
 use Rattle.receiver.specs.declared.Mode.the-variants.{Outside, Plain, Escaped, BadEscape, BareControl}
-use Rattle.receiver.specs.Record.{Record, lengthInRange, inRange, fresh, Act, Store, Become, unescape, actOf, pushed, acted, opened, silenced, pendingIn, pending, itemIn, itemOf, nextByte, nextRecord}
+use Rattle.receiver.specs.Record.{Record, lengthInRange, inRange, fresh, Act, Store, Become, unescape, actOf, pushed, acted, opened, pendingIn, pending, itemIn, itemOf, nextByte, nextRecord}
 use Rattle.receiver.proofs.Cases.{kind-acted}
 
 -- a stretch read so far: the mode and the whole unstuffed body, of any length

@@ -6,7 +6,7 @@ use mathlib.Core.Bool.{Bool, true, false, cond}
 use mathlib.Core.List.{List, [], _∷_, _++_, map}
 use lib.Dec.{ltb, eqb}
 use lib.ListN.{length, take, drop}
-use Rattle.refusal.specs.Refusals.{Numbered, number, _carrying_, Answered, served, refused}
+use Rattle.refusal.specs.Refusals.{Numbered, number, _carrying_, served, refused}
 use Rattle.shdlc.specs.declared.Kind.{Kind}
 use Rattle.shdlc.specs.Stream.{Event, byte, mark, Item, items}
 use Rattle.receiver.specs.Record.{Record, inRange, fresh, recordOf}

@@ -4,7 +4,7 @@ use mathlib.Core.Path.{_≡_, sym, ap, _∙_}
 use mathlib.Core.List.{List}
 use Prim.Native.Nat.{ℕ, _+_, _-_, _≤_, _<_}
 use native.Mathlib.Omega.{arith}
-use lib.ListN.{length, getD, drop, set, replicate, length-replicate, getD-replicate, length-set}
+use lib.ListN.{length, drop, set, replicate, length-replicate, getD-replicate, length-set}
 use Rattle.refusal.specs.Room.{overlay}
 use Rattle.refusal.proofs.Room.{write-here, write-end, overlay-all}
 use Rattle.receiver.proofs.clear.Statement.{statement}

@@ -6,7 +6,7 @@ use mathlib.Core.Path.{_≡_, sym, ap, _∙_}
 use mathlib.Core.List.{List}
 use lib.ListN.{length, take}
 use lib.Seq.{length-take-le}
-use Rattle.refusal.specs.Refusals.{served, refused}
+use Rattle.refusal.specs.Refusals.{served}
 use Rattle.refusal.specs.Room.{overlay}
 use Rattle.shdlc.specs.Paper.{paperChecked}
 use Rattle.receiver.specs.Record.{Record, held, opened, itemOf}
