@@ -4,22 +4,17 @@ use native.Mathlib.Omega.{arith}
 use mathlib.Core.Path.{_≡_, refl, sym, ap, _∙_}
 use mathlib.Core.Bool.{Bool, true, false, cond, not, _&&_, false≢true}
 use mathlib.Core.List.{List, [], _∷_}
-use borrow.Author.Tests.{ltb-false, lt-ltb, le-ltb, eqb-true}
+use borrow.Author.Tests.{lt-ltb, le-ltb, eqb-true}
 use lib.Dec.{ltb, eqb}
-use lib.ListN.{length, getD, take}
+use lib.ListN.{length, getD}
 use Rattle.refusal.specs.Refusals.{Numbered, number, served, refused}
 use Rattle.refusal.specs.Room.{overlay}
-use Rattle.refusal.proofs.Order.{refused-not-served, passed}
-use Rattle.shdlc.specs.declared.Kind.{Kind}
-use Rattle.shdlc.specs.Body.{checkBody}
 use Rattle.shdlc.specs.Stream.{Item}
-use Rattle.receiver.specs.declared.Mode.{Mode}
-use Rattle.receiver.specs.declared.Mode.the-variants.{Outside, Plain, Escaped, BadEscape, BareControl}
 use Rattle.receiver.specs.declared.Receiver.{Receiver}
 use Rattle.receiver.specs.declared.Fed.{Fed}
 use Rattle.receiver.specs.declared.Scanned.{Scanned}
 use Rattle.receiver.specs.declared.Quiet.{Quiet}
-use Rattle.receiver.specs.Record.{Record, held, outsideOf, lengthInRange, inRange, Act, Store, Become, actOf, pushed, acted, opened, silenced, pending, itemIn, itemOf, nextByte}
+use Rattle.receiver.specs.Record.{Record, held, outsideOf, lengthInRange, inRange, Act, Store, Become, actOf, pushed, acted, opened, silenced, pending, itemOf, nextByte}
 use Rattle.receiver.specs.Calls.{Said, nothing, gave, Outcome, saidOf, bufferOf, Scan, scannedAs, paperFed, paperQuiet, refusedCall, completed, unfinished, closes, scanFrom, fedBy, feedOf, silenceOf}
 
 -- a test of the code that is negated
@@ -30,15 +25,6 @@ not-true false h = refl
 pub not-false : (t : Bool) → not t ≡ false → t ≡ true
 not-false true h = refl
 not-false false h = sym h
-
--- only a stretch of at most 260 bytes is a frame
-pub frame-short : (mode : Mode) (kind : Kind) (n : ℕ) (store body : List ℕ) → itemIn mode kind n store ≡ served body → n ≤ 260
-frame-short Outside kind n store body e = absurd (refused-not-served e)
-frame-short Plain kind n store body e =
-    ltb-false 260 n (passed (ltb 260 n) (number 5) (checkBody kind (take n store)) body e .0)
-frame-short Escaped kind n store body e = absurd (refused-not-served e)
-frame-short BadEscape kind n store body e = absurd (refused-not-served e)
-frame-short BareControl kind n store body e = absurd (refused-not-served e)
 
 -- a record within its ranges has its store
 pub range-size : (r : Record) → inRange r ≡ true → length (r .store) ≡ 260

@@ -4,16 +4,32 @@ use Prim.Native.Nat.{ℕ, _≤_}
 use native.Mathlib.Omega.{arith}
 use mathlib.Core.Path.{_≡_, sym, ap, _∙_}
 use mathlib.Core.List.{List}
+use borrow.Author.Tests.{ltb-false}
+use lib.Dec.{ltb}
 use lib.ListN.{length, take}
 use lib.Seq.{length-take-le}
-use Rattle.refusal.specs.Refusals.{served}
+use Rattle.refusal.specs.Refusals.{number, served}
 use Rattle.refusal.specs.Room.{overlay}
+use Rattle.refusal.proofs.Order.{refused-not-served, passed}
+use Rattle.shdlc.specs.declared.Kind.{Kind}
+use Rattle.shdlc.specs.Body.{checkBody}
 use Rattle.shdlc.specs.Paper.{paperChecked}
-use Rattle.receiver.specs.Record.{Record, held, opened, itemOf}
+use Rattle.receiver.specs.declared.Mode.{Mode}
+use Rattle.receiver.specs.declared.Mode.the-variants.{Outside, Plain, Escaped, BadEscape, BareControl}
+use Rattle.receiver.specs.Record.{Record, held, opened, itemIn, itemOf}
 use Rattle.receiver.specs.Calls.{Outcome, gave, completed}
-use Rattle.receiver.proofs.Cases.{frame-short, completed-frame, completed-refused}
+use Rattle.receiver.proofs.Cases.{completed-frame, completed-refused}
 use Rattle.receiver.proofs.complete.Statement.{statement}
 use Rattle.receiver.proofs.complete.Tie as tie
+
+-- only a stretch of at most 260 bytes is a frame
+frame-short : (mode : Mode) (kind : Kind) (n : ℕ) (store body : List ℕ) → itemIn mode kind n store ≡ served body → n ≤ 260
+frame-short Outside kind n store body e = absurd (refused-not-served e)
+frame-short Plain kind n store body e =
+    ltb-false 260 n (passed (ltb 260 n) (number 5) (checkBody kind (take n store)) body e .0)
+frame-short Escaped kind n store body e = absurd (refused-not-served e)
+frame-short BadEscape kind n store body e = absurd (refused-not-served e)
+frame-short BareControl kind n store body e = absurd (refused-not-served e)
 
 -- the item is a frame
 module _ (c : tie.After-enum-told) where
