@@ -18,7 +18,7 @@ use Rattle.receiver.specs.Series.{Call, feeding, silence, outcome, results, rec
 use Rattle.receiver.proofs.Cases.{feed-room, quiet, silence-said}
 use Rattle.receiver.proofs.EverySeries.{Sayable, AllSayable, all-sayable, demand3}
 use Rattle.mfc.specs.declared.answers.MfcFed.{MfcFed}
-use Rattle.mfc.specs.Receivers.{numberOfKind, bytesOf, fed, refusalIn, freshRecord, untouched}
+use Rattle.mfc.specs.Receivers.{numberOfKind, bytesOf, fed, refusalIn, freshRecord, untouched, feedRecord}
 use Rattle.mfc.specs.Series.{marked, called, answers, bytesAfter, told, heard, heardIn, NoneTold2, begun, laidIn, SeriesOverBytes}
 use Rattle.mfc.proofs.Carried.{kind-back, in-range, feed-again, silence-again}
 
@@ -93,6 +93,11 @@ none-told-2 : (rs : List Result) → AllSayable rs → NoneTold2 (map told rs)
 unfolding AllSayable NoneTold2
 none-told-2 [] h = tt
 none-told-2 (r ∷ rs) h = (not-told-2 (r .said) (r .taken) (h .0), none-told-2 rs (h .1))
+
+fed-taken : (s : Said) (taken : ℕ) → fed s taken .taken ≡ taken
+fed-taken nothing taken = refl
+fed-taken (gave (served n)) taken = refl
+fed-taken (gave (refused n)) taken = refl
 
 -- a series after another
 after-append : (done calls : List Call) (r : Record) → recordAfter r (done ++ calls) ≡ recordAfter (recordAfter r done) calls
@@ -175,6 +180,21 @@ module _ (kind : Kind) (lent : List ℕ) (long : 264 ≤ length lent) where
       let n : length (bytesOf (leftBy calls)) ≡ 264 = omega (arith, in-range (leftBy calls) good .0) in
       ap (take 264) (end calls) ∙ take-at (bytesOf (leftBy calls)) (drop 264 lent) 264 n
 
+  some-taken : (calls : List Call) (piece frame : List ℕ) → 1 ≤ length piece → 260 ≤ length frame
+      → 1 ≤ feedRecord (bytesAfter (begun kind lent) calls) piece frame .0 .taken
+  some-taken calls piece frame some room =
+      let r = recordAfter (fresh kind) calls in
+      let call = feeding piece frame in
+      let n = one-more calls r call refl in
+      let h : inRange (outcome r call .leaves) ≡ true = ap inRange n ∙ in-ranges (calls ++ (call ∷ [])) in
+      let bytes : bytesAfter (begun kind lent) calls ≡ overlay lent 0 (bytesOf r) =
+      ap (λ (l : List ℕ). bytesAfter l calls) fresh-bytes ∙ from-fresh calls .leaves in
+      let same : feedRecord (bytesAfter (begun kind lent) calls) piece frame .0 .taken ≡ feedOf r piece frame .result .taken =
+      ap (λ (l : List ℕ). feedRecord l piece frame .0 .taken) bytes
+      ∙ ap (λ (x : MfcFed × List ℕ × List ℕ). x .0 .taken) (on-call lent long r (in-ranges calls) call h)
+      ∙ fed-taken (feedOf r piece frame .result .said) (feedOf r piece frame .result .taken) in
+      omega (arith, same, demand3 kind .progress calls piece frame some room)
+
 pub series-over-bytes : (kind : Kind) → SeriesOverBytes kind
 series-over-bytes kind =
     record {
@@ -188,4 +208,5 @@ series-over-bytes kind =
           first kind lent long calls
           ∙ ap (λ (stream : List Event). bytesOf (recordOf kind stream)) same
           ∙ sym (first kind other big others);
+      progress = some-taken kind;
     }

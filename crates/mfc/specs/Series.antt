@@ -59,7 +59,7 @@ abbrev pub laidIn : List ℕ → Record → List ℕ
 laidIn lent r = bytesOf r ++ drop 264 lent
 
 -- Demand 3, for C: every series of calls after `mfc_receiver_fresh` over any 264 lent bytes or more. What the receiver's own claim says of
--- handing in again speaks of the bytes taken, which `each-call` says here too.
+-- cutting a stream speaks of the bytes taken, which `each-call` says here too.
 pub record SeriesOverBytes (kind : Kind) : Type 0 where
   -- the series begins with the fresh record
   pub fresh-record : (lent : List ℕ) → 264 ≤ length lent → freshRecord (numberOfKind kind) lent ≡ (0, laidIn lent (fresh kind))
@@ -78,3 +78,6 @@ pub record SeriesOverBytes (kind : Kind) : Type 0 where
   pub one-record : (lent other : List ℕ) → 264 ≤ length lent → 264 ≤ length other → (calls others : List Call)
       → streamOf kind calls ≡ streamOf kind others
       → take 264 (bytesAfter (begun kind lent) calls) ≡ take 264 (bytesAfter (begun kind other) others)
+  -- a call that is lent 260 bytes takes at least one byte of a piece that has one: a loop that hands in what is left comes to an end
+  pub progress : (lent : List ℕ) → 264 ≤ length lent → (calls : List Call) (piece frame : List ℕ) → 1 ≤ length piece → 260 ≤ length frame
+      → 1 ≤ feedRecord (bytesAfter (begun kind lent) calls) piece frame .0 .taken
