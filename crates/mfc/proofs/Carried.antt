@@ -1,5 +1,5 @@
--- A receiver over lent bytes from call to call: what one call puts back is what the next one finds. So the claim over every series of
--- calls, of the crate receiver, holds of the calls from C. Assumes nothing.
+-- A receiver over lent bytes from call to call: what one call puts back is what the next one finds. EverySeries.antt has the claim over
+-- every series of calls by it. Assumes nothing.
 use mathlib.Core.Path.{_≡_, refl, ap}
 use mathlib.Core.Bool.{Bool, true, false, _&&_, false≢true}
 use mathlib.Core.List.{List}
