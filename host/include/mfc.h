@@ -2,6 +2,9 @@
  * two sensor families on I2C, and scaled readings. No function keeps state or a pointer, or
  * allocates. Each takes any numbers and any bytes.
  *
+ * Compile with -Wconversion: C cuts a number that is too wide for its parameter, and address
+ * 256 would be sent to 0.
+ *
  * A slice is a pointer and a length. A pointer may be NULL only with length 0, and the buffers
  * lent to one call do not overlap. The length of a slice of uint16_t is in words.
  *
@@ -10,10 +13,10 @@
  * were, save that a receiver's record goes on past an item that is refused with 3 to 9. A
  * writer that succeeds changes only the bytes of its answer.
  *
- * A receiver's record is the first 264 bytes of a slice that the caller keeps from call to
- * call: kind (0 requests, 1 replies), mode (0 outside a frame, 1 in one, 2 after a 7D, 3 and 4
- * the refusal found), length (high byte, low byte), and 260 bytes of store. Bytes past 264 are
- * not touched.
+ * A receiver's record is the first MFC_RECORD_SIZE bytes of a slice that the caller keeps from
+ * call to call: kind (0 requests, 1 replies), mode (0 outside a frame, 1 in one, 2 after a 7D,
+ * 3 and 4 the refusal found), length (high byte, low byte), and 260 bytes of store. Bytes past
+ * them are not touched.
  *
  * The value of a request or a reply is a number, a float by its bits. Beside a request or a
  * reply that carries none it is not looked at. In a reply FFFFFFFF hex is an invalid reading,
@@ -29,6 +32,24 @@
 #ifdef __cplusplus
 extern "C" {
 #endif
+
+/* Sizes and start values. */
+enum {
+    /* The bytes of a receiver's record. */
+    MFC_RECORD_SIZE = 264,
+    /* The bytes that mfc_feed needs for a frame's body. */
+    MFC_FRAME_ROOM = 260,
+    /* The longest frame that mfc_write_request writes: 7E, command, L, subcommand, 7E, and all
+     * of address, value and checksum stuffed. */
+    MFC_REQUEST_ROOM = 17,
+    /* The longest frame that mfc_write_reply writes: 7E, command, state, L, the text's 00, 7E,
+     * and all of address, checksum and a text of 254 bytes stuffed. */
+    MFC_REPLY_ROOM = 518,
+    /* The start value of the CRC of liquid sensors. */
+    MFC_START_LIQUID = 0x00,
+    /* The start value of the CRC of SFC6. */
+    MFC_START_SFC6 = 0xFF
+};
 
 /* Refusals. */
 enum {
@@ -122,6 +143,32 @@ enum {
     MFC_REPLY_DEVICE_ERROR = 15
 };
 
+/* Commands of SFC6 on I2C. */
+enum {
+    MFC_SFC6_POINT_TO_TEMPERATURE = 0xE102,
+    MFC_SFC6_POINT_BACK = 0xE000,
+    /* the concentration of a running measurement. */
+    MFC_SFC6_SET_CONCENTRATION = 0xE17D,
+    /* start on mixture 0, gas 0 in gas 1. */
+    MFC_SFC6_START_MIXTURE0 = 0x3650,
+    /* start on mixture 1, gas 7 in gas 8. */
+    MFC_SFC6_START_MIXTURE1 = 0x365B,
+    MFC_SFC6_SHUT_VALVE = 0x3FEF,
+    MFC_SFC6_NORMAL_CONTROL = 0x3F6E
+};
+
+/* Commands of liquid sensors on I2C. */
+enum {
+    MFC_LIQUID_WRITE_USER = 0xE2,
+    MFC_LIQUID_READ_USER = 0xE3,
+    MFC_LIQUID_WRITE_ADVANCED = 0xE4,
+    MFC_LIQUID_READ_ADVANCED = 0xE5,
+    MFC_LIQUID_FLOW = 0xF1,
+    MFC_LIQUID_TEMPERATURE = 0xF3,
+    MFC_LIQUID_SUPPLY = 0xF5,
+    MFC_LIQUID_RESET = 0xFE
+};
+
 /* What a writer answers. */
 typedef struct {
     /* The refusal's number, 0 for none. */
@@ -209,8 +256,9 @@ uint8_t mfc_checksum(const uint8_t *bytes, size_t n);
 
 /* Writes the frame of a request. Refusals, in their order: 11 for a request over 20; 12 for an
  * address over 254 to be set, or a baud that is none of 9600, 19200, 38400, 57600 and 115200;
- * 13 for a float that is not finite; 10 for set address sent to 255; 5 never; 1 where the frame
- * is longer than room. */
+ * 13 for a float that is not finite; 10 for set address sent to 255; 1 where the frame is
+ * longer than room (MFC_REQUEST_ROOM bytes hold any). No request has over 255 data bytes, so
+ * refusal 5 does not come. */
 mfc_written mfc_write_request(uint8_t address, uint8_t request, uint32_t value,
                               uint8_t *out, size_t room);
 
@@ -233,7 +281,8 @@ mfc_request mfc_read_request(const uint8_t *body, size_t n);
  * expected nor a device error; 12 for a raw flow or raw conductivity over 65,535, an address
  * over 254, a validity over 1, a baud that is none of the five, an error code outside 1 to 127,
  * or a text that holds a 00 or is over 254 bytes; 13 for a float that is neither finite nor one
- * of the three codings; 5 never; 1 where the frame is longer than room. */
+ * of the three codings; 1 where the frame is longer than room (MFC_REPLY_ROOM bytes hold any).
+ * A text too long for a frame is 12 already, so refusal 5 does not come. */
 mfc_written mfc_write_reply(uint8_t address, uint8_t request, uint32_t value, uint8_t reply,
                             uint32_t reply_value, const uint8_t *text, size_t n, uint8_t bit7,
                             uint8_t *out, size_t room);
@@ -247,52 +296,56 @@ mfc_written mfc_write_reply(uint8_t address, uint8_t request, uint32_t value, ui
 mfc_reply mfc_read_reply(uint8_t address, uint8_t request, uint32_t value,
                          const uint8_t *body, size_t n);
 
-/* Makes a fresh receiver of a kind, 0 for requests and 1 for replies, in the first 264 bytes of
- * record. Answers the refusal's number, 0 for none. Refusals, in their order: 1 where size is
- * under 264; 12 for another kind. */
+/* Makes a fresh receiver of a kind, MFC_KIND_REQUEST or MFC_KIND_REPLY, in the first
+ * MFC_RECORD_SIZE bytes of record. Answers the refusal's number, 0 for none. Refusals, in their
+ * order: 1 where size is under MFC_RECORD_SIZE; 12 for another kind. */
 uint8_t mfc_receiver_fresh(uint8_t kind, uint8_t *record, size_t size);
 
 /* Hands the n bytes of a piece to the receiver whose record is lent. It takes bytes up to and
- * including the one that completes an item, or all of them: hand in the rest again. A frame's
- * unstuffed body stands at the start of frame; else frame is untouched. Refusals, in their
- * order: 2 where size is under 264 or a field of the record is out of its range; 1 where room
- * is under 260, and nothing is taken; else the refusal that a closed stretch of bytes is: 3 for
- * a wrong escape, 4 for a bare 11 or 13 hex, then 5 to 8 of the body (too long, too short, L
- * wrong, checksum wrong). */
+ * including the one that completes an item, a frame or a refusal, or all of them: hand in the
+ * rest again. A frame's unstuffed body stands at the start of frame; else frame is untouched.
+ * Refusals, in their order: 2 where size is under MFC_RECORD_SIZE or a field of the record is
+ * out of its range; 1 where room is under MFC_FRAME_ROOM; else those of the bytes up to a 7E
+ * that are no frame: 3 for a wrong escape, 4 for a bare 11 or 13 hex, then 5 to 8 of the body
+ * (too long, too short, L wrong, checksum wrong). With 2 and 1 nothing is taken: the same call
+ * again is refused again. */
 mfc_fed mfc_feed(uint8_t *record, size_t size, const uint8_t *piece, size_t n,
                  uint8_t *frame, size_t room);
 
 /* Tells the receiver whose record is lent of silence over 200 ms: what was begun is cut off,
  * and bytes are noise until the next 7E. Answers the refusal's number, 0 for none: 2 where size
- * is under 264 or a field of the record is out of its range; 9 where bytes of a frame were cut
- * off. */
+ * is under MFC_RECORD_SIZE or a field of the record is out of its range; 9 where bytes of a
+ * frame were cut off. */
 uint8_t mfc_silence(uint8_t *record, size_t size);
 
-/* The CRC-8 of n bytes from a start value: 00 for liquid sensors, FF for SFC6; any other is
+/* The CRC-8 of n bytes from a start value, MFC_START_LIQUID or MFC_START_SFC6; any other is
  * taken too. It refuses nothing. */
 uint8_t mfc_crc(uint8_t start, const uint8_t *bytes, size_t n);
 
-/* Reads n bytes as words of high byte, low byte and CRC, and stores their numbers at the start
- * of words, of which there are room. Every word is checked before any is stored. Refusals, in
- * their order: 16 where there is no byte or n is no multiple of 3; 17 where a CRC is wrong; 1
- * where there are more words than room. */
+/* Reads n bytes as words, each a high byte, a low byte and their CRC from start (as in
+ * mfc_crc), and stores their numbers at the start of words, an array of room numbers. Every
+ * word is checked before any is stored. A sensor's reading is such a number taken as signed:
+ * (int16_t)words[0]. Refusals, in their order: 16 where n is 0 or no multiple of 3; 17 where a
+ * CRC is wrong; 1 where there are more words than room. */
 mfc_words mfc_read_words(uint8_t start, const uint8_t *bytes, size_t n,
                          uint16_t *words, size_t room);
 
-/* Writes n words, each as high byte, low byte and CRC. Refusals, in their order: 16 where n is
- * 0; 1 where 3 n bytes are more than room. */
+/* Writes n words, each as high byte, low byte and their CRC from start (as in mfc_crc): 3 n
+ * bytes. Refusals, in their order: 16 where n is 0; 1 where 3 n is more than room. */
 mfc_written mfc_write_words(uint8_t start, const uint16_t *words, size_t n,
                             uint8_t *out, size_t room);
 
-/* Writes an SFC6 command: its code E102, E000, E17D, 3650, 365B, 3FEF or 3F6E, and after E17D,
- * 3650 and 365B the concentration in per mille as a word with CRC; beside another code the
- * concentration is not looked at. Refusals, in their order: 12 for another code, or a
- * concentration over 1000; 1 where room is under 2 bytes, with a concentration 5. */
+/* Writes an SFC6 command: the two bytes of its code, one of the seven MFC_SFC6_*. The codes
+ * E17D, 3650 and 365B take a concentration, 0 to 1000 per mille, which follows as a word with
+ * CRC, 5 bytes in all; beside the others it is not looked at. Refusals, in their order: 12 for
+ * a code that is none of these, or a concentration over 1000; 1 where room is less than these 2
+ * or 5 bytes. */
 mfc_written mfc_write_sfc6(uint16_t code, uint32_t concentration, uint8_t *out, size_t room);
 
-/* Writes a liquid command: its code E2, E3, E4, E5, F1, F3, F5 or FE, and after E2 and E4 the
- * register's value without CRC; beside another code the value is not looked at. Refusals, in
- * their order: 12 for another code; 1 where room is 0, with a value under 3. */
+/* Writes a liquid command: the byte of its code, one of the eight MFC_LIQUID_*. The codes E2
+ * and E4 take the register's value, which follows as two bytes without CRC, 3 bytes in all;
+ * beside the others it is not looked at. Refusals, in their order: 12 for a code that is none
+ * of these; 1 where room is less than this 1 byte or these 3. */
 mfc_written mfc_write_liquid(uint8_t code, uint16_t value, uint8_t *out, size_t room);
 
 /* The user register with another calibration field, bits 6:4. Refusal 12 for a field over 4. */
@@ -301,8 +354,9 @@ mfc_register mfc_edit_user(uint16_t value, uint32_t field);
 /* The advanced register with another resolution, bits 11:9. Refusal 12 for a field over 7. */
 mfc_register mfc_edit_advanced(uint16_t value, uint32_t field);
 
-/* (raw - offset) x 1000 / scale, rounded to nearest, halves away from zero. Refusal 18 for a
- * scale outside 1 to 32,767. */
+/* (raw - offset) x 1000 / scale, rounded to nearest, halves away from zero. A word of
+ * mfc_read_words is handed in as a signed number, (int16_t)words[0]. Refusal 18 for a scale
+ * outside 1 to 32,767. */
 mfc_thousandths mfc_scaled(int16_t raw, int16_t offset, int32_t scale);
 
 /* (raw - offset) / scale in single precision. Refusal 18 for a scale outside 1 to 32,767. */

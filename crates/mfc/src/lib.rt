@@ -4,6 +4,8 @@
 // Frames, requests and replies of SFC6 mass flow controllers on SHDLC, words and commands of two sensor families on I2C, and scaled
 // readings. No function keeps state or a pointer, or allocates. Each takes any numbers and any bytes.
 //
+// Compile with -Wconversion: C cuts a number that is too wide for its parameter, and address 256 would be sent to 0.
+//
 // A slice is a pointer and a length. A pointer may be NULL only with length 0, and the buffers lent to one call do not overlap. The
 // length of a slice of uint16_t is in words.
 //
@@ -11,9 +13,9 @@
 // said of it. A refusal leaves all lent buffers as they were, save that a receiver's record goes on past an item that is refused with 3
 // to 9. A writer that succeeds changes only the bytes of its answer.
 //
-// A receiver's record is the first 264 bytes of a slice that the caller keeps from call to call: kind (0 requests, 1 replies), mode (0
-// outside a frame, 1 in one, 2 after a 7D, 3 and 4 the refusal found), length (high byte, low byte), and 260 bytes of store. Bytes past
-// 264 are not touched.
+// A receiver's record is the first MFC_RECORD_SIZE bytes of a slice that the caller keeps from call to call: kind (0 requests, 1
+// replies), mode (0 outside a frame, 1 in one, 2 after a 7D, 3 and 4 the refusal found), length (high byte, low byte), and 260 bytes of
+// store. Bytes past them are not touched.
 //
 // The value of a request or a reply is a number, a float by its bits. Beside a request or a reply that carries none it is not looked at.
 // In a reply FFFFFFFF hex is an invalid reading, 7F800000 plus infinity and FF800000 minus infinity.
@@ -22,4 +24,5 @@ pub mod readings;
 pub mod receivers;
 pub mod reply;
 pub mod requests;
+pub mod sizes;
 pub mod words;

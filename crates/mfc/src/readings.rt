@@ -7,7 +7,8 @@ ghost use mathlib.Core.Path.{_≡_};
 ghost use Rattle.reading.specs.Reading.{inThousandths, quantity};
 ghost use Rattle.mfc.specs.Answers as answers;
 
-// (raw - offset) x 1000 / scale, rounded to nearest, halves away from zero. Refusal 18 for a scale outside 1 to 32,767.
+// (raw - offset) x 1000 / scale, rounded to nearest, halves away from zero. A word of mfc_read_words is handed in as a signed
+// number, (int16_t)words[0]. Refusal 18 for a scale outside 1 to 32,767.
 #[no_mangle]
 pub extern "C" fn mfc_scaled(raw: i16, offset: i16, scale: i32) -> MfcThousandths
     ensures { λ r. ⌜ r ≡ answers.thousandths (inThousandths raw offset scale) ⌝ }

@@ -1,4 +1,4 @@
-// A receiver whose record is the first 264 bytes of a lent slice.
+// A receiver whose record is the first RECORD_SIZE bytes of a lent slice.
 use crate::answers::MfcFed;
 use receiver::Answer;
 use receiver::Made;
@@ -152,8 +152,8 @@ fn refusal_in(answer: Answer) -> u8
     }
 }
 
-// Makes a fresh receiver of a kind, 0 for requests and 1 for replies, in the first 264 bytes of record. Answers the refusal's number, 0
-// for none. Refusals, in their order: 1 where size is under 264; 12 for another kind.
+// Makes a fresh receiver of a kind, MFC_KIND_REQUEST or MFC_KIND_REPLY, in the first MFC_RECORD_SIZE bytes of record. Answers the refusal's
+// number, 0 for none. Refusals, in their order: 1 where size is under MFC_RECORD_SIZE; 12 for another kind.
 #[no_mangle]
 pub extern "C" fn mfc_receiver_fresh(kind: u8, record: &mut [u8]) -> u8
     ensures { λ r. ⌜ (r, now («record» .exit)) ≡ freshRecord kind (now («record» .entry)) ⌝ }
@@ -174,10 +174,10 @@ pub extern "C" fn mfc_receiver_fresh(kind: u8, record: &mut [u8]) -> u8
 }
 
 // Hands the n bytes of a piece to the receiver whose record is lent. It takes bytes up to and including the one that completes an item,
-// or all of them: hand in the rest again. A frame's unstuffed body stands at the start of frame; else frame is untouched. Refusals, in
-// their order: 2 where size is under 264 or a field of the record is out of its range; 1 where room is under 260, and nothing is taken;
-// else the refusal that a closed stretch of bytes is: 3 for a wrong escape, 4 for a bare 11 or 13 hex, then 5 to 8 of the body (too long,
-// too short, L wrong, checksum wrong).
+// a frame or a refusal, or all of them: hand in the rest again. A frame's unstuffed body stands at the start of frame; else frame is
+// untouched. Refusals, in their order: 2 where size is under MFC_RECORD_SIZE or a field of the record is out of its range; 1 where room is
+// under MFC_FRAME_ROOM; else those of the bytes up to a 7E that are no frame: 3 for a wrong escape, 4 for a bare 11 or 13 hex, then 5 to 8
+// of the body (too long, too short, L wrong, checksum wrong). With 2 and 1 nothing is taken: the same call again is refused again.
 #[no_mangle]
 pub extern "C" fn mfc_feed(record: &mut [u8], piece: &[u8], frame: &mut [u8]) -> MfcFed
     ensures { λ r. ⌜ (r, now («record» .exit), now (frame .exit)) ≡ feedRecord (now («record» .entry)) (now (piece .entry)) (now (frame .entry)) ⌝ }
@@ -194,8 +194,8 @@ pub extern "C" fn mfc_feed(record: &mut [u8], piece: &[u8], frame: &mut [u8]) ->
 }
 
 // Tells the receiver whose record is lent of silence over 200 ms: what was begun is cut off, and bytes are noise until the next 7E.
-// Answers the refusal's number, 0 for none: 2 where size is under 264 or a field of the record is out of its range; 9 where bytes of a
-// frame were cut off.
+// Answers the refusal's number, 0 for none: 2 where size is under MFC_RECORD_SIZE or a field of the record is out of its range; 9 where
+// bytes of a frame were cut off.
 #[no_mangle]
 pub extern "C" fn mfc_silence(record: &mut [u8]) -> u8
     ensures { λ r. ⌜ (r, now («record» .exit)) ≡ silenceRecord (now («record» .entry)) ⌝ }

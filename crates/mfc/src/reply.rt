@@ -159,8 +159,8 @@ fn refusal_of(address: u8, request: Request, number: u8) -> Refusal
 // at. bit7 is bit 7 of the state: 0 for no, else yes. Refusals, in their order: 11 for a request over 20; 12, 13 and 10 of the request
 // itself, as of mfc_write_request; 14 for a request to 255, a reply over 15, or one that is neither expected nor a device error; 12 for a
 // raw flow or raw conductivity over 65,535, an address over 254, a validity over 1, a baud that is none of the five, an error code outside
-// 1 to 127, or a text that holds a 00 or is over 254 bytes; 13 for a float that is neither finite nor one of the three codings; 5 never;
-// 1 where the frame is longer than room.
+// 1 to 127, or a text that holds a 00 or is over 254 bytes; 13 for a float that is neither finite nor one of the three codings; 1 where
+// the frame is longer than room (MFC_REPLY_ROOM bytes hold any). A text too long for a frame is 12 already, so refusal 5 does not come.
 #[no_mangle]
 pub extern "C" fn mfc_write_reply(
     address: u8,

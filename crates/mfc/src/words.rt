@@ -27,7 +27,7 @@ enum LiquidCode {
     Unlisted,
 }
 
-// The CRC-8 of n bytes from a start value: 00 for liquid sensors, FF for SFC6; any other is taken too. It refuses nothing.
+// The CRC-8 of n bytes from a start value, MFC_START_LIQUID or MFC_START_SFC6; any other is taken too. It refuses nothing.
 #[no_mangle]
 pub extern "C" fn mfc_crc(start: u8, bytes: &[u8]) -> u8
     ensures { λ r. ⌜ r ≡ crcOf start (now (bytes .entry)) ⌝ }
@@ -35,9 +35,10 @@ pub extern "C" fn mfc_crc(start: u8, bytes: &[u8]) -> u8
     i2c::crc::crc(start, bytes)
 }
 
-// Reads n bytes as words of high byte, low byte and CRC, and stores their numbers at the start of words, of which there are room.
-// Every word is checked before any is stored. Refusals, in their order: 16 where there is no byte or n is no multiple of 3; 17 where a
-// CRC is wrong; 1 where there are more words than room.
+// Reads n bytes as words, each a high byte, a low byte and their CRC from start (as in mfc_crc), and stores their numbers at the start of
+// words, an array of room numbers. Every word is checked before any is stored. A sensor's reading is such a number taken as signed:
+// (int16_t)words[0]. Refusals, in their order: 16 where n is 0 or no multiple of 3; 17 where a CRC is wrong; 1 where there are more words
+// than room.
 #[no_mangle]
 pub extern "C" fn mfc_read_words(start: u8, bytes: &[u8], words: &mut [u16]) -> MfcWords
     ensures { λ r. ⌜ (r, now (words .exit)) ≡ beside counted (readWords start (now (bytes .entry)) (now (words .entry))) ⌝ }
@@ -45,7 +46,8 @@ pub extern "C" fn mfc_read_words(start: u8, bytes: &[u8], words: &mut [u16]) -> 
     of_words(i2c::word::read_words(start, bytes, words))
 }
 
-// Writes n words, each as high byte, low byte and CRC. Refusals, in their order: 16 where n is 0; 1 where 3 n bytes are more than room.
+// Writes n words, each as high byte, low byte and their CRC from start (as in mfc_crc): 3 n bytes. Refusals, in their order: 16 where n
+// is 0; 1 where 3 n is more than room.
 #[no_mangle]
 pub extern "C" fn mfc_write_words(start: u8, words: &[u16], out: &mut [u8]) -> MfcWritten
     ensures { λ r. ⌜ (r, now (out .exit)) ≡ beside written (writeWords start (now (words .entry)) (now (out .entry))) ⌝ }
@@ -69,9 +71,9 @@ fn sfc6_of(code: u16, concentration: u32) -> Sfc6Code
     }
 }
 
-// Writes an SFC6 command: its code E102, E000, E17D, 3650, 365B, 3FEF or 3F6E, and after E17D, 3650 and 365B the concentration in per
-// mille as a word with CRC; beside another code the concentration is not looked at. Refusals, in their order: 12 for another code, or a
-// concentration over 1000; 1 where room is under 2 bytes, with a concentration 5.
+// Writes an SFC6 command: the two bytes of its code, one of the seven MFC_SFC6_*. The codes E17D, 3650 and 365B take a concentration, 0 to 1000
+// per mille, which follows as a word with CRC, 5 bytes in all; beside the others it is not looked at. Refusals, in their order: 12 for a
+// code that is none of these, or a concentration over 1000; 1 where room is less than these 2 or 5 bytes.
 #[no_mangle]
 pub extern "C" fn mfc_write_sfc6(code: u16, concentration: u32, out: &mut [u8]) -> MfcWritten
     ensures { λ r. ⌜ (r, now (out .exit)) ≡ writeSfc6Code code concentration (now (out .entry)) ⌝ }
@@ -99,8 +101,9 @@ fn liquid_of(code: u8, value: u16) -> LiquidCode
     }
 }
 
-// Writes a liquid command: its code E2, E3, E4, E5, F1, F3, F5 or FE, and after E2 and E4 the register's value without CRC; beside
-// another code the value is not looked at. Refusals, in their order: 12 for another code; 1 where room is 0, with a value under 3.
+// Writes a liquid command: the byte of its code, one of the eight MFC_LIQUID_*. The codes E2 and E4 take the register's value, which follows as
+// two bytes without CRC, 3 bytes in all; beside the others it is not looked at. Refusals, in their order: 12 for a code that is none of
+// these; 1 where room is less than this 1 byte or these 3.
 #[no_mangle]
 pub extern "C" fn mfc_write_liquid(code: u8, value: u16, out: &mut [u8]) -> MfcWritten
     ensures { λ r. ⌜ (r, now (out .exit)) ≡ writeLiquidCode code value (now (out .entry)) ⌝ }
