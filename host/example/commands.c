@@ -44,12 +44,12 @@ static void expect(uint8_t address, uint8_t request, uint32_t value, uint8_t rep
 
 static void expect_done(uint8_t address, uint8_t request, uint32_t value, const char *what)
 {
-    expect(address, request, value, ACKNOWLEDGED, 0, what);
+    expect(address, request, value, MFC_REPLY_ACKNOWLEDGED, 0, what);
 }
 
 static void expect_error(uint8_t address, uint8_t request, uint32_t value, uint8_t code, const char *what)
 {
-    check_answer(line_ask(&line, address, request, value), REFUSED, 15, code, 0, 0, what);
+    check_answer(line_ask(&line, address, request, value), REFUSED, MFC_REFUSAL_DEVICE_ERROR, code, 0, 0, what);
 }
 
 static void expect_refusal(uint8_t address, uint8_t request, uint32_t value, uint8_t refusal, const char *what)
@@ -77,96 +77,96 @@ static void expect_code(const uint8_t *wire, size_t n, uint8_t code, const char 
 
 static void readings(void)
 {
-    expect(AT, RAW_FLOW, 0, RAW_FLOW_IS, true_raw_flow(AT), "raw flow");
-    expect(AT, RAW_CONDUCTIVITY, 0, RAW_CONDUCTIVITY_IS, true_raw_conductivity(AT), "raw conductivity");
-    expect(AT, TEMPERATURE, 0, TEMPERATURE_IS, true_temperature(AT), "temperature");
-    expect(AT, NUMBER_OF_CALIBRATIONS, 0, NUMBER_OF_CALIBRATIONS_IS, CALIBRATIONS, "number of calibrations");
-    expect(AT, VALIDITY, 0, VALIDITY_IS, 1, "validity of a place with a calibration");
-    expect(AT, VALIDITY, 2, VALIDITY_IS, 0, "validity of an empty place");
-    expect(AT, VALIDITY, 0x7E7D1113, VALIDITY_IS, 0, "validity of a place past the end");
+    expect(AT, MFC_REQUEST_RAW_FLOW, 0, MFC_REPLY_RAW_FLOW, true_raw_flow(AT), "raw flow");
+    expect(AT, MFC_REQUEST_RAW_CONDUCTIVITY, 0, MFC_REPLY_RAW_CONDUCTIVITY, true_raw_conductivity(AT), "raw conductivity");
+    expect(AT, MFC_REQUEST_TEMPERATURE, 0, MFC_REPLY_TEMPERATURE, true_temperature(AT), "temperature");
+    expect(AT, MFC_REQUEST_NUMBER_OF_CALIBRATIONS, 0, MFC_REPLY_NUMBER_OF_CALIBRATIONS, CALIBRATIONS, "number of calibrations");
+    expect(AT, MFC_REQUEST_VALIDITY, 0, MFC_REPLY_VALIDITY, 1, "validity of a place with a calibration");
+    expect(AT, MFC_REQUEST_VALIDITY, 2, MFC_REPLY_VALIDITY, 0, "validity of an empty place");
+    expect(AT, MFC_REQUEST_VALIDITY, 0x7E7D1113, MFC_REPLY_VALIDITY, 0, "validity of a place past the end");
 }
 
 static void setpoint_and_settings(void)
 {
-    expect(AT, GET_SETPOINT, 0, SETPOINT_IS, true_setpoint(AT), "setpoint at the start");
-    expect(AT, MEASURED_VALUE, 0, MEASURED_IS, true_measured(AT), "measured value at the start");
-    expect_done(AT, SET_SETPOINT, ONE_FIFTH, "set setpoint");
-    expect(AT, GET_SETPOINT, 0, SETPOINT_IS, ONE_FIFTH, "setpoint after it was set");
-    expect(AT, MEASURED_VALUE, 0, MEASURED_IS, ONE_FIFTH, "measured value follows the setpoint");
-    expect(AT + 1, GET_SETPOINT, 0, SETPOINT_IS, true_setpoint(AT + 1), "the neighbour's setpoint");
-    expect(AT, GET_GAIN, 0, GAIN_IS, TRUE_GAIN, "gain at the start");
-    expect_done(AT, SET_GAIN, ONE_FIFTH, "set gain");
-    expect(AT, GET_GAIN, 0, GAIN_IS, ONE_FIFTH, "gain after it was set");
-    expect(AT, GET_INIT_STEP, 0, INIT_STEP_IS, TRUE_INIT_STEP, "init step at the start");
-    expect_done(AT, SET_INIT_STEP, 0x7D7E1113, "set init step");
-    expect(AT, GET_INIT_STEP, 0, INIT_STEP_IS, 0x7D7E1113, "init step after it was set");
+    expect(AT, MFC_REQUEST_GET_SETPOINT, 0, MFC_REPLY_SETPOINT, true_setpoint(AT), "setpoint at the start");
+    expect(AT, MFC_REQUEST_MEASURED_VALUE, 0, MFC_REPLY_MEASURED_VALUE, true_measured(AT), "measured value at the start");
+    expect_done(AT, MFC_REQUEST_SET_SETPOINT, ONE_FIFTH, "set setpoint");
+    expect(AT, MFC_REQUEST_GET_SETPOINT, 0, MFC_REPLY_SETPOINT, ONE_FIFTH, "setpoint after it was set");
+    expect(AT, MFC_REQUEST_MEASURED_VALUE, 0, MFC_REPLY_MEASURED_VALUE, ONE_FIFTH, "measured value follows the setpoint");
+    expect(AT + 1, MFC_REQUEST_GET_SETPOINT, 0, MFC_REPLY_SETPOINT, true_setpoint(AT + 1), "the neighbour's setpoint");
+    expect(AT, MFC_REQUEST_GET_GAIN, 0, MFC_REPLY_GAIN, TRUE_GAIN, "gain at the start");
+    expect_done(AT, MFC_REQUEST_SET_GAIN, ONE_FIFTH, "set gain");
+    expect(AT, MFC_REQUEST_GET_GAIN, 0, MFC_REPLY_GAIN, ONE_FIFTH, "gain after it was set");
+    expect(AT, MFC_REQUEST_GET_INIT_STEP, 0, MFC_REPLY_INIT_STEP, TRUE_INIT_STEP, "init step at the start");
+    expect_done(AT, MFC_REQUEST_SET_INIT_STEP, 0x7D7E1113, "set init step");
+    expect(AT, MFC_REQUEST_GET_INIT_STEP, 0, MFC_REPLY_INIT_STEP, 0x7D7E1113, "init step after it was set");
 }
 
 static void calibrations(void)
 {
-    expect(AT, GET_CALIBRATION, 0, CALIBRATION_IS, true_calibration(AT), "calibration at the start");
-    expect_done(AT, SET_CALIBRATION, true_calibration(AT), "set the calibration that is set");
-    expect(AT, GET_SETPOINT, 0, SETPOINT_IS, ONE_FIFTH, "setpoint stays with the calibration");
-    expect_done(AT, SET_CALIBRATION, 19, "set calibration");
-    expect(AT, GET_CALIBRATION, 0, CALIBRATION_IS, 19, "calibration after it was set");
-    expect(AT, FULL_SCALE, 0, FULL_SCALE_IS, true_full_scale(19), "full scale of the calibration");
-    expect(AT, GET_SETPOINT, 0, SETPOINT_IS, 0, "setpoint is 0 after another calibration");
-    expect_error(AT, SET_CALIBRATION, 17, 51, "set an empty calibration");
-    expect_done(AT, VOLATILE_CALIBRATION, 18, "volatile calibration");
-    expect(AT, GET_CALIBRATION, 0, CALIBRATION_IS, 18, "calibration after the volatile one");
-    expect_error(AT, VOLATILE_CALIBRATION, 0xFFFFFFFF, 51, "volatile calibration past the end");
-    expect(AT, GET_CALIBRATION, 0, CALIBRATION_IS, 18, "calibration after a refused one");
+    expect(AT, MFC_REQUEST_GET_CALIBRATION, 0, MFC_REPLY_CALIBRATION, true_calibration(AT), "calibration at the start");
+    expect_done(AT, MFC_REQUEST_SET_CALIBRATION, true_calibration(AT), "set the calibration that is set");
+    expect(AT, MFC_REQUEST_GET_SETPOINT, 0, MFC_REPLY_SETPOINT, ONE_FIFTH, "setpoint stays with the calibration");
+    expect_done(AT, MFC_REQUEST_SET_CALIBRATION, 19, "set calibration");
+    expect(AT, MFC_REQUEST_GET_CALIBRATION, 0, MFC_REPLY_CALIBRATION, 19, "calibration after it was set");
+    expect(AT, MFC_REQUEST_FULL_SCALE, 0, MFC_REPLY_FULL_SCALE, true_full_scale(19), "full scale of the calibration");
+    expect(AT, MFC_REQUEST_GET_SETPOINT, 0, MFC_REPLY_SETPOINT, 0, "setpoint is 0 after another calibration");
+    expect_error(AT, MFC_REQUEST_SET_CALIBRATION, 17, 51, "set an empty calibration");
+    expect_done(AT, MFC_REQUEST_VOLATILE_CALIBRATION, 18, "volatile calibration");
+    expect(AT, MFC_REQUEST_GET_CALIBRATION, 0, MFC_REPLY_CALIBRATION, 18, "calibration after the volatile one");
+    expect_error(AT, MFC_REQUEST_VOLATILE_CALIBRATION, 0xFFFFFFFF, 51, "volatile calibration past the end");
+    expect(AT, MFC_REQUEST_GET_CALIBRATION, 0, MFC_REPLY_CALIBRATION, 18, "calibration after a refused one");
 }
 
 static void addresses(void)
 {
-    expect(AT, GET_ADDRESS, 0, ADDRESS_IS, AT, "address");
-    expect_done(AT, SET_ADDRESS, FREE, "set address, answered from the old one");
-    expect(FREE, GET_ADDRESS, 0, ADDRESS_IS, FREE, "address after it was set");
-    expect_silence(AT, GET_ADDRESS, 0, "nobody at the old address");
-    expect(FREE, RAW_FLOW, 0, RAW_FLOW_IS, true_raw_flow(AT), "the same controller at the new address");
-    expect_done(FREE, SET_ADDRESS, AT, "set address back");
+    expect(AT, MFC_REQUEST_GET_ADDRESS, 0, MFC_REPLY_ADDRESS, AT, "address");
+    expect_done(AT, MFC_REQUEST_SET_ADDRESS, FREE, "set address, answered from the old one");
+    expect(FREE, MFC_REQUEST_GET_ADDRESS, 0, MFC_REPLY_ADDRESS, FREE, "address after it was set");
+    expect_silence(AT, MFC_REQUEST_GET_ADDRESS, 0, "nobody at the old address");
+    expect(FREE, MFC_REQUEST_RAW_FLOW, 0, MFC_REPLY_RAW_FLOW, true_raw_flow(AT), "the same controller at the new address");
+    expect_done(FREE, MFC_REQUEST_SET_ADDRESS, AT, "set address back");
 }
 
 static void baud_rates(void)
 {
     static const uint32_t rates[] = { 9600, 19200, 38400, 57600, 115200 };
 
-    expect(AT, GET_BAUD, 0, BAUD_IS, TRUE_BAUD, "baud rate");
+    expect(AT, MFC_REQUEST_GET_BAUD, 0, MFC_REPLY_BAUD, TRUE_BAUD, "baud rate");
     for (size_t i = 0; i < sizeof rates / sizeof rates[0]; i++) {
-        expect_done(AT, SET_BAUD, rates[i], "set baud rate");
+        expect_done(AT, MFC_REQUEST_SET_BAUD, rates[i], "set baud rate");
         check(line_speed(&line, rates[i]), "the line's rate", "not taken");
-        expect(AT, GET_BAUD, 0, BAUD_IS, rates[i], "baud rate after it was set");
+        expect(AT, MFC_REQUEST_GET_BAUD, 0, MFC_REPLY_BAUD, rates[i], "baud rate after it was set");
     }
     check(line_speed(&line, 9600), "the line's rate", "not taken");
-    expect_silence(AT, GET_BAUD, 0, "nobody at another rate");
+    expect_silence(AT, MFC_REQUEST_GET_BAUD, 0, "nobody at another rate");
     check(line_speed(&line, TRUE_BAUD), "the line's rate", "not taken");
 }
 
 static void texts(void)
 {
-    struct answer answer = line_ask(&line, AT, PRODUCT_TYPE, 0);
+    struct answer answer = line_ask(&line, AT, MFC_REQUEST_PRODUCT_TYPE, 0);
     size_t n = sizeof TRUE_TYPE - 1;
 
-    check_answer(answer, ANSWERED, 0, 0, PRODUCT_TYPE_IS, 0, "product type");
+    check_answer(answer, ANSWERED, 0, 0, MFC_REPLY_PRODUCT_TYPE, 0, "product type");
     check(answer.reply.text_length == n && memcmp(line.frame + answer.reply.text_start, TRUE_TYPE, n) == 0,
           "product type's text", "another text");
 }
 
 static void broadcasts(void)
 {
-    expect_silence(255, SET_GAIN, ONE_FIFTH, "a gain for all is not answered");
+    expect_silence(255, MFC_REQUEST_SET_GAIN, ONE_FIFTH, "a gain for all is not answered");
     for (uint8_t i = 0; i < RACK; i++)
-        expect(i, GET_GAIN, 0, GAIN_IS, ONE_FIFTH, "gain after it was set for all");
+        expect(i, MFC_REQUEST_GET_GAIN, 0, MFC_REPLY_GAIN, ONE_FIFTH, "gain after it was set for all");
 }
 
 static void refused_before_sending(void)
 {
-    expect_refusal(AT, REQUESTS, 0, 11, "a request number over 20");
-    expect_refusal(AT, SET_ADDRESS, 255, 12, "address 255");
-    expect_refusal(AT, SET_BAUD, 14400, 12, "a baud rate that is not one of the five");
-    expect_refusal(AT, SET_SETPOINT, 0x7F800000, 13, "an infinite setpoint");
-    expect_refusal(255, SET_ADDRESS, 7, 10, "set address for all");
+    expect_refusal(AT, MFC_REQUEST_PRODUCT_TYPE + 1, 0, MFC_REFUSAL_UNKNOWN_COMMAND, "a request number over 20");
+    expect_refusal(AT, MFC_REQUEST_SET_ADDRESS, 255, MFC_REFUSAL_OUT_OF_RANGE, "address 255");
+    expect_refusal(AT, MFC_REQUEST_SET_BAUD, 14400, MFC_REFUSAL_OUT_OF_RANGE, "a baud rate that is not one of the five");
+    expect_refusal(AT, MFC_REQUEST_SET_SETPOINT, 0x7F800000, MFC_REFUSAL_BAD_FLOAT, "an infinite setpoint");
+    expect_refusal(255, MFC_REQUEST_SET_ADDRESS, 7, MFC_REFUSAL_ADDRESS_BROADCAST, "set address for all");
 }
 
 static void frames_by_hand(void)

@@ -66,7 +66,7 @@ size_t pass_over(struct damage *damage, const uint8_t *bytes, size_t n, uint8_t 
 
 size_t add_noise(struct damage *damage, uint8_t *bytes, size_t n)
 {
-    size_t count = 1 + random_under(damage, NOISE);
+    size_t count = 1 + random_under(damage, MOST_NOISE);
     size_t place = random_under(damage, (uint32_t)n + 1);
 
     memmove(bytes + place + count, bytes + place, n - place);

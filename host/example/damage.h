@@ -35,6 +35,6 @@ size_t pass_over(struct damage *damage, const uint8_t *bytes, size_t n, uint8_t 
 /* Puts 1 to 8 random bytes before, inside or behind n bytes in a buffer with 8 more of room. Returns the new length. */
 size_t add_noise(struct damage *damage, uint8_t *bytes, size_t n);
 
-#define NOISE 8
+#define MOST_NOISE 8
 
 #endif

@@ -12,9 +12,6 @@
 /* Bytes may keep coming on a line that never falls silent: after so many timeouts one question is over anyway. */
 #define LONGEST 5
 
-/* 17 bytes hold every request. */
-#define REQUEST_ROOM 17
-
 static int64_t now_ms(void)
 {
     struct timespec t;
@@ -88,7 +85,7 @@ const char *line_open(struct line *line, const char *device, int timeout_ms)
     line->restless = 0;
     line->heard = line->stray = 0;
     line->start = line->end = 0;
-    if (mfc_receiver_fresh(1, line->record, sizeof line->record) != 0)
+    if (mfc_receiver_fresh(MFC_KIND_REPLY, line->record, sizeof line->record) != 0)
         return "the receiver cannot be made: rebuild this program with the library's own header";
     do
         line->fd = open(device, O_RDWR | O_NOCTTY | O_NONBLOCK);
@@ -235,7 +232,7 @@ static mfc_fed feed(struct line *line)
 }
 
 /* The next item. QUIET says that the line fell silent, or that `limit` came on a line that does not: the receiver is told, and
-   9 is given where that cut a frame. */
+   refusal 9 is given where that cut a frame. */
 static enum heard next_item(struct line *line, int64_t limit, mfc_fed *fed)
 {
     for (;;) {
@@ -267,18 +264,18 @@ size_t line_next(struct line *line, uint8_t *refusal)
 
 static struct answer ended(enum ending ending, uint8_t refusal)
 {
-    struct answer answer = { SILENT, { 0, 0, 0, 0, 0, 0, 0 } };
+    struct answer answer = { SILENT, { 0, 0, 0, 0, 0, 0, 0 }, 0 };
 
     answer.ending = ending;
     answer.reply.refusal = refusal;
     return answer;
 }
 
-/* Whether a frame settles the question. One that belongs to another request (14) does not: it is a late answer, or a doubled
+/* Whether a frame settles the question. One that belongs to another request does not: it is a late answer, or a doubled
    address, and ours may still come. */
 static int settles(mfc_reply reply)
 {
-    return reply.refusal != 14;
+    return reply.refusal != MFC_REFUSAL_FOREIGN_REPLY;
 }
 
 /* Listens until the answer is there or the line is silent. Damage does not end it either: noise or the echo of the request on
@@ -296,9 +293,9 @@ static struct answer listen_for(struct line *line, uint8_t address, uint8_t requ
 
         if (heard == GONE)
             return ended(LINE_GONE, 0);
-        if (refusal == 1 || refusal == 2) {
+        if (refusal == MFC_REFUSAL_NO_ROOM || refusal == MFC_REFUSAL_BAD_RECORD) {
             /* Only a fault of this program spoils the record. The next question gets a good one. */
-            (void)mfc_receiver_fresh(1, line->record, sizeof line->record);
+            (void)mfc_receiver_fresh(MFC_KIND_REPLY, line->record, sizeof line->record);
             return ended(REFUSED, refusal);
         }
         if (fed.frame_length != 0) {
@@ -307,6 +304,7 @@ static struct answer listen_for(struct line *line, uint8_t address, uint8_t requ
             if (settles(reply)) {
                 answer.ending = reply.refusal == 0 ? ANSWERED : REFUSED;
                 answer.reply = reply;
+                answer.length = fed.frame_length;
                 return answer;
             }
             refusal = reply.refusal;
@@ -320,7 +318,7 @@ static struct answer listen_for(struct line *line, uint8_t address, uint8_t requ
 
 struct answer line_ask(struct line *line, uint8_t address, uint8_t request, uint32_t value)
 {
-    uint8_t out[REQUEST_ROOM];
+    uint8_t out[MFC_REQUEST_ROOM];
     mfc_written written = mfc_write_request(address, request, value, out, sizeof out);
 
     if (written.refusal != 0)

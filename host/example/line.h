@@ -14,8 +14,8 @@ struct line {
     int restless;                /* the last question ended with the line not known to be quiet */
     unsigned long heard;         /* bytes that arrived */
     unsigned long stray;         /* those of them thrown away because no question was open */
-    uint8_t record[264];         /* the receiver */
-    uint8_t frame[260];          /* the last frame's body */
+    uint8_t record[MFC_RECORD_SIZE]; /* the receiver */
+    uint8_t frame[MFC_FRAME_ROOM];   /* the last frame's body */
     uint8_t bytes[4096];         /* what arrived: from `start` to `end` is not yet taken */
     size_t start, end;
 };
@@ -23,7 +23,7 @@ struct line {
 /* How one question ended. */
 enum ending {
     ANSWERED,                    /* `reply` is the answer */
-    REFUSED,                     /* `reply.refusal` says why, and with 15 `reply.code` */
+    REFUSED,                     /* `reply.refusal` says why, with a device error `reply.code` */
     SILENT,                      /* nothing arrived */
     NOISE,                       /* bytes arrived, but no start of a frame among them */
     LINE_GONE                    /* hang-up, unplugged, or an error in errno */
@@ -32,6 +32,7 @@ enum ending {
 struct answer {
     enum ending ending;
     mfc_reply reply;
+    size_t length;               /* of the frame's body that was read, which stands in `frame` of the line; 0 without one */
 };
 
 /* Opens `device` raw at 115,200 8N1 with a fresh receiver of replies. Returns NULL, or what to tell the user. */

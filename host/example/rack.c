@@ -22,7 +22,6 @@
 
 #define BROADCAST 255
 #define SILENCE_MS 200           /* the maker's interbyte timeout */
-#define LONGEST_REPLY 518        /* on the wire */
 #define WAITING 64               /* answers held back at one time */
 #define AHEAD 1200               /* bytes held for the next piece: two answers, or an echo */
 
@@ -46,7 +45,7 @@ static const char help[] =
     "  --delay MS      what late means (1 to 10000, default 300)\n"
     "  --seed N        other random numbers (default 1)\n"
     "  --seconds N     stop after N seconds (1 to 86400, default none)\n"
-    "  --truth         print what a supervisory program should print for each controller, and stop\n"
+    "  --truth         print what a supervisory program should print for each controller and sensor, and stop\n"
     "  --help          print this\n";
 
 struct controller {
@@ -67,7 +66,7 @@ struct said {
 struct waiting {
     int64_t due;                 /* 0 for a free place */
     size_t n;
-    uint8_t bytes[LONGEST_REPLY + NOISE];
+    uint8_t bytes[MFC_REPLY_ROOM + MOST_NOISE];
 };
 
 struct rack {
@@ -76,7 +75,7 @@ struct rack {
     int damage_requests, echo;
     long delay_ms, seconds;
     int master, slave;           /* the slave is held open, so that the line lives on between two masters */
-    uint8_t record[264], frame[260];
+    uint8_t record[MFC_RECORD_SIZE], frame[MFC_FRAME_ROOM];
     struct waiting waiting[WAITING];
     uint8_t ahead[AHEAD];        /* what goes out before the next bytes, in one piece with them */
     size_t ahead_n;
@@ -115,48 +114,53 @@ static void power_up(struct rack *rack)
     }
 }
 
+static struct said says(uint8_t reply, uint32_t value)
+{
+    struct said said = { 0, 0 };
+
+    said.reply = reply;
+    said.value = value;
+    return said;
+}
+
 /* Selecting another calibration sets the setpoint to 0 (the maker's note); the stored and the volatile command differ only
    after a restart, which this rack does not do. */
 static struct said select_calibration(struct controller *c, uint32_t index)
 {
-    struct said done = { ACKNOWLEDGED, 0 }, invalid = { DEVICE_ERROR, INVALID_CALIBRATION };
-
     if (!true_validity(index))
-        return invalid;
+        return says(MFC_REPLY_DEVICE_ERROR, INVALID_CALIBRATION);
     if (index != c->calibration)
         c->setpoint = 0;
     c->calibration = index;
-    return done;
+    return says(MFC_REPLY_ACKNOWLEDGED, 0);
 }
 
 static struct said execute(struct controller *c, uint8_t request, uint32_t value)
 {
-    struct said said = { ACKNOWLEDGED, 0 };
-
     switch (request) {
-    case GET_SETPOINT: said.reply = SETPOINT_IS; said.value = c->setpoint; break;
-    case SET_SETPOINT: c->setpoint = value; break;
-    case MEASURED_VALUE: said.reply = MEASURED_IS; said.value = c->setpoint; break;
-    case GET_GAIN: said.reply = GAIN_IS; said.value = c->gain; break;
-    case SET_GAIN: c->gain = value; break;
-    case GET_INIT_STEP: said.reply = INIT_STEP_IS; said.value = c->init_step; break;
-    case SET_INIT_STEP: c->init_step = value; break;
-    case RAW_FLOW: said.reply = RAW_FLOW_IS; said.value = true_raw_flow(c->first); break;
-    case RAW_CONDUCTIVITY: said.reply = RAW_CONDUCTIVITY_IS; said.value = true_raw_conductivity(c->first); break;
-    case TEMPERATURE: said.reply = TEMPERATURE_IS; said.value = true_temperature(c->first); break;
-    case NUMBER_OF_CALIBRATIONS: said.reply = NUMBER_OF_CALIBRATIONS_IS; said.value = CALIBRATIONS; break;
-    case VALIDITY: said.reply = VALIDITY_IS; said.value = (uint32_t)true_validity(value); break;
-    case FULL_SCALE: said.reply = FULL_SCALE_IS; said.value = true_full_scale(c->calibration); break;
-    case GET_CALIBRATION: said.reply = CALIBRATION_IS; said.value = c->calibration; break;
-    case SET_CALIBRATION: case VOLATILE_CALIBRATION: said = select_calibration(c, value); break;
-    case GET_ADDRESS: said.reply = ADDRESS_IS; said.value = c->address; break;
-    case SET_ADDRESS: c->address = (uint8_t)value; break;
-    case GET_BAUD: said.reply = BAUD_IS; said.value = c->baud; break;
-    case SET_BAUD: c->baud = value; break;
-    case PRODUCT_TYPE: said.reply = PRODUCT_TYPE_IS; break;
-    default: said.reply = DEVICE_ERROR; said.value = UNKNOWN_COMMAND; break;
+    case MFC_REQUEST_GET_SETPOINT: return says(MFC_REPLY_SETPOINT, c->setpoint);
+    case MFC_REQUEST_SET_SETPOINT: c->setpoint = value; break;
+    case MFC_REQUEST_MEASURED_VALUE: return says(MFC_REPLY_MEASURED_VALUE, c->setpoint);
+    case MFC_REQUEST_GET_GAIN: return says(MFC_REPLY_GAIN, c->gain);
+    case MFC_REQUEST_SET_GAIN: c->gain = value; break;
+    case MFC_REQUEST_GET_INIT_STEP: return says(MFC_REPLY_INIT_STEP, c->init_step);
+    case MFC_REQUEST_SET_INIT_STEP: c->init_step = value; break;
+    case MFC_REQUEST_RAW_FLOW: return says(MFC_REPLY_RAW_FLOW, true_raw_flow(c->first));
+    case MFC_REQUEST_RAW_CONDUCTIVITY: return says(MFC_REPLY_RAW_CONDUCTIVITY, true_raw_conductivity(c->first));
+    case MFC_REQUEST_TEMPERATURE: return says(MFC_REPLY_TEMPERATURE, true_temperature(c->first));
+    case MFC_REQUEST_NUMBER_OF_CALIBRATIONS: return says(MFC_REPLY_NUMBER_OF_CALIBRATIONS, CALIBRATIONS);
+    case MFC_REQUEST_VALIDITY: return says(MFC_REPLY_VALIDITY, (uint32_t)true_validity(value));
+    case MFC_REQUEST_FULL_SCALE: return says(MFC_REPLY_FULL_SCALE, true_full_scale(c->calibration));
+    case MFC_REQUEST_GET_CALIBRATION: return says(MFC_REPLY_CALIBRATION, c->calibration);
+    case MFC_REQUEST_SET_CALIBRATION: case MFC_REQUEST_VOLATILE_CALIBRATION: return select_calibration(c, value);
+    case MFC_REQUEST_GET_ADDRESS: return says(MFC_REPLY_ADDRESS, c->address);
+    case MFC_REQUEST_SET_ADDRESS: c->address = (uint8_t)value; break;
+    case MFC_REQUEST_GET_BAUD: return says(MFC_REPLY_BAUD, c->baud);
+    case MFC_REQUEST_SET_BAUD: c->baud = value; break;
+    case MFC_REQUEST_PRODUCT_TYPE: return says(MFC_REPLY_PRODUCT_TYPE, 0);
+    default: return says(MFC_REPLY_DEVICE_ERROR, UNKNOWN_COMMAND);
     }
-    return said;
+    return says(MFC_REPLY_ACKNOWLEDGED, 0);
 }
 
 /* ---- the line ---- */
@@ -216,7 +220,7 @@ static int put_due(struct rack *rack)
 static void put_answer(struct rack *rack, const uint8_t *frame, size_t length)
 {
     struct damage *damage = &rack->damage;
-    uint8_t bytes[LONGEST_REPLY + NOISE];
+    uint8_t bytes[MFC_REPLY_ROOM + MOST_NOISE];
     unsigned struck = 0;
     size_t n = pass_over(damage, frame, length, bytes, &struck), first = n;
     int late = strikes(damage, &damage->late), pause = strikes(damage, &damage->pause);
@@ -255,7 +259,7 @@ static uint8_t sender(struct rack *rack, uint8_t address)
 static void answer(struct rack *rack, mfc_request asked, struct said said)
 {
     static const uint8_t type[] = TRUE_TYPE;
-    uint8_t wire[LONGEST_REPLY];
+    uint8_t wire[MFC_REPLY_ROOM];
     mfc_written written = mfc_write_reply(sender(rack, asked.address), asked.request, asked.value, said.reply, said.value,
                                           type, sizeof type - 1, 0, wire, sizeof wire);
 
@@ -313,16 +317,15 @@ static uint32_t line_baud(const struct rack *rack)
     return tcgetattr(rack->slave, &settings) == 0 ? baud_of(cfgetospeed(&settings)) : 0;
 }
 
-/* The code for a request that the library refuses to read: 11, 12 or 13. The rest is not answered (a bad frame), or went to
-   all (10). */
+/* The code for a request that the library refuses to read. The rest is not answered: a bad frame, or set address for all. */
 static uint8_t error_code(const uint8_t *body, uint8_t refusal)
 {
     int length_right = (body[1] == 0x90 && body[2] == 1) || (body[1] == 0x91 && body[2] == 4);
 
     switch (refusal) {
-    case 11: return UNKNOWN_COMMAND;
-    case 12: return length_right ? PARAMETER : DATA_SIZE;
-    case 13: return PARAMETER;
+    case MFC_REFUSAL_UNKNOWN_COMMAND: return UNKNOWN_COMMAND;
+    case MFC_REFUSAL_OUT_OF_RANGE: return length_right ? PARAMETER : DATA_SIZE;
+    case MFC_REFUSAL_BAD_FLOAT: return PARAMETER;
     default: return 0;
     }
 }
@@ -453,6 +456,7 @@ static void print_truth(void)
         reading_words(true_measured(i), text, sizeof text);
         (void)printf("controller %2u: measured %s; calibration %lu\n", i, text, (unsigned long)true_calibration(i));
     }
+    (void)fputs(TRUE_SENSORS, stdout);
 }
 
 static int read_number(const char *text, long low, long high, long *value)
@@ -545,7 +549,7 @@ int main(int argc, char **argv)
         return 2;
     power_up(&rack);
     stop_on_signals();
-    if (mfc_receiver_fresh(0, rack.record, sizeof rack.record) != 0 || !open_terminal(&rack))
+    if (mfc_receiver_fresh(MFC_KIND_REQUEST, rack.record, sizeof rack.record) != 0 || !open_terminal(&rack))
         return 3;
     run(&rack);
     (void)printf("requests %lu, unheard %lu, answers %lu, damaged %lu\n",

@@ -1,4 +1,4 @@
-/* truth.h: what the rack's controllers know when it starts, each derived from its first address. */
+/* truth.h: what the rack's controllers know when it starts, each derived from its first address, and what the board's sensors do. */
 #ifndef TRUTH_H
 #define TRUTH_H
 
@@ -57,5 +57,16 @@ static inline uint32_t true_full_scale(uint32_t calibration)
 #define TRUE_INIT_STEP 0x3F000000u
 #define TRUE_BAUD 115200u
 #define TRUE_TYPE "SFC6000-5slm"
+
+/* The sensors' words, and what a supervisory program should print for them: (-15872 + 28672) / 10240, 4700 / 200, -410 / 120
+   and -7 / 10, in thousandths. */
+#define TRUE_SFC6_FLOW (-15872)
+#define TRUE_SFC6_TEMPERATURE 4700
+#define TRUE_LIQUID_FLOW (-410)
+#define TRUE_LIQUID_TEMPERATURE (-7)
+#define TRUE_USER_REGISTER 0x8E71
+#define TRUE_SENSORS \
+    "sensor SFC6: flow 1.250 l/min; temperature 23.500 C\n" \
+    "sensor liquid: flow -3.417 ml/min; temperature -0.700 C\n"
 
 #endif

@@ -1,5 +1,7 @@
 #include "words.h"
 
+#include "mfc.h"
+
 #include <stdio.h>
 #include <string.h>
 
@@ -14,21 +16,24 @@ struct word {
 #define PROGRAM "a fault of this program: report it"
 
 static const struct word refusals[] = {
-    { 1, "lent room too small", PROGRAM },
-    { 2, "receiver record damaged", PROGRAM },
-    { 3, "escape byte broken", CABLE },
-    { 4, "bare XON or XOFF byte", "switch off software flow control in the adapter, then poll again" },
-    { 5, "answer too long", CABLE },
-    { 6, "answer too short", CABLE },
-    { 7, "length byte wrong", CABLE },
-    { 8, "checksum wrong", CABLE },
-    { 9, "answer cut off by silence", "check the controller's power and its plug, or give a longer --timeout" },
-    { 10, "set address sent to all", "address one controller" },
-    { 11, "request unknown", PROGRAM },
-    { 12, "value out of its range", "check that the controller is of the SFC6 family and its firmware is current" },
-    { 13, "float not allowed", "the controller's reading is broken: restart it" },
-    { 14, "answer to another request", "give a longer --timeout and check that no two controllers share an address" },
-    { 15, "controller reports an error", "see its code" },
+    { MFC_REFUSAL_NO_ROOM, "lent room too small", PROGRAM },
+    { MFC_REFUSAL_BAD_RECORD, "receiver record damaged", PROGRAM },
+    { MFC_REFUSAL_BAD_ESCAPE, "escape byte broken", CABLE },
+    { MFC_REFUSAL_BARE_CONTROL, "bare XON or XOFF byte", "switch off software flow control in the adapter, then poll again" },
+    { MFC_REFUSAL_BODY_TOO_LONG, "answer too long", CABLE },
+    { MFC_REFUSAL_BODY_TOO_SHORT, "answer too short", CABLE },
+    { MFC_REFUSAL_WRONG_LENGTH, "length byte wrong", CABLE },
+    { MFC_REFUSAL_WRONG_CHECKSUM, "checksum wrong", CABLE },
+    { MFC_REFUSAL_CUT_BY_SILENCE, "answer cut off by silence", "check the controller's power and its plug, or give a longer --timeout" },
+    { MFC_REFUSAL_ADDRESS_BROADCAST, "set address sent to all", "address one controller" },
+    { MFC_REFUSAL_UNKNOWN_COMMAND, "request unknown", PROGRAM },
+    { MFC_REFUSAL_OUT_OF_RANGE, "value out of its range", "check that the controller is of the SFC6 family and its firmware is current" },
+    { MFC_REFUSAL_BAD_FLOAT, "float not allowed", "the controller's reading is broken: restart it" },
+    { MFC_REFUSAL_FOREIGN_REPLY, "answer to another request", "give a longer --timeout and check that no two controllers share an address" },
+    { MFC_REFUSAL_DEVICE_ERROR, "controller reports an error", "see its code" },
+    { MFC_REFUSAL_BAD_WORD_COUNT, "no words, or a part of one", PROGRAM },
+    { MFC_REFUSAL_WRONG_CRC, "CRC wrong", "check the bus cable and its pull-ups, then poll again" },
+    { MFC_REFUSAL_BAD_SCALE, "scale out of its range", PROGRAM },
 };
 
 static const struct word codes[] = {
@@ -89,4 +94,11 @@ void reading_words(uint32_t bits, char *text, size_t room)
         (void)snprintf(text, room, "-infinity");
     else
         (void)snprintf(text, room, "%.9g", (double)float_of(bits));
+}
+
+void thousandths_words(int32_t thousandths, char *text, size_t room)
+{
+    long size = thousandths < 0 ? -(long)thousandths : thousandths;
+
+    (void)snprintf(text, room, "%s%ld.%03ld", thousandths < 0 ? "-" : "", size / 1000, size % 1000);
 }
