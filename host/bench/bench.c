@@ -34,7 +34,7 @@ static volatile size_t sink;
 /* ---- the jobs ---- */
 
 static struct { const uint8_t *bytes; size_t n, piece; } wire;
-static uint8_t record[264], frame[260], plain_frame[260], out[LONGEST];
+static uint8_t record[MFC_RECORD_SIZE], frame[MFC_FRAME_ROOM], plain_frame[MFC_FRAME_ROOM], out[LONGEST];
 static struct plain_receiver receiver;
 
 static size_t smaller(size_t a, size_t b)
@@ -186,7 +186,7 @@ static void words_library(void)
     size_t sum = 0;
 
     for (size_t i = 0; i < ROW; i++)
-        sum += mfc_read_words(0xFF, row_of_words + 9 * i, 9, words, 3).count + words[2];
+        sum += mfc_read_words(MFC_START_SFC6, row_of_words + 9 * i, 9, words, 3).count + words[2];
     sink = sum;
 }
 
@@ -514,8 +514,8 @@ static void measure_all(void)
 
 /* ---- the stack ---- */
 
-static void use_checksum(void) { sink = mfc_checksum(any_bytes, 260); }
-static void use_crc(void) { sink = mfc_crc(0xFF, any_bytes, 260); }
+static void use_checksum(void) { sink = mfc_checksum(any_bytes, MFC_FRAME_ROOM); }
+static void use_crc(void) { sink = mfc_crc(MFC_START_SFC6, any_bytes, MFC_FRAME_ROOM); }
 
 /* Good requests and refused ones, and rooms that hold them and do not. */
 static void use_write_request(void)
@@ -535,15 +535,15 @@ static void use_write_request_at(void)
 }
 
 /* Bodies of all requests, and of some that are refused. */
-static struct { uint8_t body[260]; size_t length; } bodies[21 * VALUES];
+static struct { uint8_t body[MFC_FRAME_ROOM]; size_t length; } bodies[21 * VALUES];
 
 static void lay_bodies(void)
 {
     for (size_t i = 0; i < 21 * VALUES; i++) {
         mfc_written written = mfc_write_request(0x11, (uint8_t)(i / VALUES), values[i % VALUES], out, sizeof out);
 
-        (void)mfc_receiver_fresh(0, record, sizeof record);
-        bodies[i].length = mfc_feed(record, sizeof record, out, written.length, bodies[i].body, 260).frame_length;
+        (void)mfc_receiver_fresh(MFC_KIND_REQUEST, record, sizeof record);
+        bodies[i].length = mfc_feed(record, sizeof record, out, written.length, bodies[i].body, MFC_FRAME_ROOM).frame_length;
     }
 }
 
@@ -551,7 +551,7 @@ static void use_read_request(void)
 {
     for (size_t i = 0; i < 21 * VALUES; i++) {
         sink = mfc_read_request(bodies[i].body, bodies[i].length).value;
-        sink = mfc_read_request(bodies[i].body, i % 260).value;
+        sink = mfc_read_request(bodies[i].body, i % MFC_FRAME_ROOM).value;
     }
 }
 
@@ -563,7 +563,7 @@ static void use_write_reply(void)
                 sink = mfc_write_reply(0x11, request, 5, reply, values[v], specials, 254, 1, out, sizeof out).length;
 }
 
-static uint8_t type_body[260];
+static uint8_t type_body[MFC_FRAME_ROOM];
 
 static void lay_type(void)
 {
@@ -584,7 +584,7 @@ static void use_read_reply(void)
     sink = mfc_read_reply(7, 20, 0, type_body, sizeof type_body).text_length;
 }
 
-static void use_fresh(void) { sink = mfc_receiver_fresh(1, record, sizeof record); }
+static void use_fresh(void) { sink = mfc_receiver_fresh(MFC_KIND_REPLY, record, sizeof record); }
 
 static void use_feed(void)
 {
@@ -592,7 +592,7 @@ static void use_feed(void)
         at += mfc_feed(record, sizeof record, damaged + at, damaged_n - at, frame, sizeof frame).taken;
     for (size_t at = 0; at < escapes_n;)
         at += mfc_feed(record, sizeof record, escapes + at, smaller(16, escapes_n - at), frame, sizeof frame).taken;
-    sink = mfc_feed(record, sizeof record, damaged, 16, frame, 259).refusal;
+    sink = mfc_feed(record, sizeof record, damaged, 16, frame, sizeof frame - 1).refusal;
 }
 
 static void use_silence(void) { sink = mfc_silence(record, sizeof record); }
@@ -600,23 +600,23 @@ static void use_silence(void) { sink = mfc_silence(record, sizeof record); }
 static void use_read_words(void)
 {
     for (size_t n = 0; n <= 9; n++)
-        sink = mfc_read_words(0xFF, sfc6_words, n, words, 3).count;
-    sink = mfc_read_words(0x00, sfc6_words, 9, words, 3).count;
+        sink = mfc_read_words(MFC_START_SFC6, sfc6_words, n, words, 3).count;
+    sink = mfc_read_words(MFC_START_LIQUID, sfc6_words, 9, words, 3).count;
 }
 
-static void use_write_words(void) { sink = mfc_write_words(0xFF, words, 3, out, sizeof out).length; }
+static void use_write_words(void) { sink = mfc_write_words(MFC_START_SFC6, words, 3, out, sizeof out).length; }
 
 static void use_write_sfc6(void)
 {
-    sink = mfc_write_sfc6(0xE17D, 500, out, sizeof out).length;
-    sink = mfc_write_sfc6(0x3FEF, 0, out, sizeof out).length;
+    sink = mfc_write_sfc6(MFC_SFC6_SET_CONCENTRATION, 500, out, sizeof out).length;
+    sink = mfc_write_sfc6(MFC_SFC6_SHUT_VALVE, 0, out, sizeof out).length;
     sink = mfc_write_sfc6(0x1234, 0, out, sizeof out).length;
 }
 
 static void use_write_liquid(void)
 {
-    sink = mfc_write_liquid(0xE2, 0x1234, out, sizeof out).length;
-    sink = mfc_write_liquid(0xF1, 0, out, sizeof out).length;
+    sink = mfc_write_liquid(MFC_LIQUID_WRITE_USER, 0x1234, out, sizeof out).length;
+    sink = mfc_write_liquid(MFC_LIQUID_FLOW, 0, out, sizeof out).length;
     sink = mfc_write_liquid(0x12, 0, out, sizeof out).length;
 }
 

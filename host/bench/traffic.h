@@ -2,6 +2,8 @@
 #ifndef TRAFFIC_H
 #define TRAFFIC_H
 
+#include "mfc.h"
+
 #include <stddef.h>
 #include <stdint.h>
 
@@ -11,7 +13,7 @@
 struct poll {
     uint8_t address, request;
     uint32_t value;              /* of the answer */
-    uint8_t body[260];
+    uint8_t body[MFC_FRAME_ROOM];
     size_t length;
 };
 

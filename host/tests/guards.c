@@ -18,24 +18,7 @@
 #include <sys/mman.h>
 #include <unistd.h>
 
-#if defined(__has_include)
-#if __has_include("../include/mfc.h")
-#include "../include/mfc.h"
-#define HAVE_HEADER
-#endif
-#endif
-
-#ifndef HAVE_HEADER
-typedef struct { uint8_t refusal; size_t length; } mfc_written;
-typedef struct { uint8_t refusal; uint8_t address; uint8_t request; uint32_t value; } mfc_request;
-typedef struct { uint8_t refusal; uint8_t code; uint8_t bit7; uint8_t reply;
-                 uint32_t value; size_t text_start; size_t text_length; } mfc_reply;
-typedef struct { uint8_t refusal; size_t frame_length; size_t taken; } mfc_fed;
-typedef struct { uint8_t refusal; size_t count; } mfc_words;
-typedef struct { uint8_t refusal; uint16_t value; } mfc_register;
-typedef struct { uint8_t refusal; int32_t value; } mfc_thousandths;
-typedef struct { uint8_t refusal; float value; } mfc_quantity;
-#endif
+#include "commands.h"
 
 /* Declared once more: a header that says otherwise does not compile. */
 uint8_t mfc_checksum(const uint8_t *bytes, size_t n);
@@ -63,7 +46,7 @@ _Static_assert(offsetof(mfc_reply, value) == 4, "four bytes stand before the val
 _Static_assert(offsetof(mfc_register, value) == 2, "the register's value follows the refusal");
 _Static_assert(sizeof(mfc_quantity) == 8, "a refusal and a float");
 
-enum { RECORD = 264, FRAME = 260, SLOTS = 3, LARGEST = 4096 };
+enum { SLOTS = 3, LARGEST = 4096 };
 
 /* ---- Random numbers: the same in every placement */
 
@@ -216,7 +199,7 @@ static void write_request_at(size_t size, size_t start)
 {
     begin("mfc_write_request_at");
     struct lent buffer = lend(0, NULL, size);
-    uint8_t request = (uint8_t)below(22);
+    uint8_t request = (uint8_t)below(REQUESTS + 1);
     mfc_written written = mfc_write_request_at(buffer.bytes, size, start, wire_byte(), request, any() & 1);
     fold(written.refusal);
     fold(written.length);
@@ -260,7 +243,7 @@ static void read_bodies(const uint8_t *contents, size_t n)
     fold(request.value);
     begin("mfc_read_reply");
     uint8_t address = n > 0 ? contents[0] : 0;
-    mfc_reply reply = mfc_read_reply(address, (uint8_t)below(22), 1, body.bytes, n);
+    mfc_reply reply = mfc_read_reply(address, (uint8_t)below(REQUESTS + 1), 1, body.bytes, n);
     fold(reply.refusal);
     fold(reply.code);
     fold(reply.bit7);
@@ -278,14 +261,14 @@ static void read_bodies(const uint8_t *contents, size_t n)
 static mfc_fed feed(uint8_t *record, const uint8_t *contents, size_t n, uint8_t *copy, size_t room)
 {
     begin("mfc_feed");
-    struct lent kept = lend(0, record, RECORD);
+    struct lent kept = lend(0, record, MFC_RECORD_SIZE);
     struct lent piece = lend(1, contents, n);
     struct lent frame = lend(2, NULL, room);
-    mfc_fed fed = mfc_feed(kept.bytes, RECORD, piece.bytes, n, frame.bytes, room);
+    mfc_fed fed = mfc_feed(kept.bytes, MFC_RECORD_SIZE, piece.bytes, n, frame.bytes, room);
     if (fed.taken > n || fed.frame_length > room) {
         fail("more than was lent");
     }
-    memcpy(record, kept.bytes, RECORD);
+    memcpy(record, kept.bytes, MFC_RECORD_SIZE);
     if (fed.frame_length > 0) {
         memcpy(copy, frame.bytes, fed.frame_length);
     }
@@ -324,7 +307,7 @@ static void words(size_t n, size_t room, int spoilt)
 {
     uint16_t values[64];
     uint8_t bytes[3 * 64];
-    uint8_t start = below(2) ? 0xFF : 0x00;
+    uint8_t start = below(2) ? MFC_START_SFC6 : MFC_START_LIQUID;
     for (size_t i = 0; i < n; i++) {
         values[i] = (uint16_t)any();
     }
@@ -354,18 +337,23 @@ static void words(size_t n, size_t room, int spoilt)
 
 static void i2c_commands(void)
 {
-    static const uint16_t codes[] = {0xE102, 0xE000, 0xE17D, 0x3650, 0x365B, 0x3FEF, 0x3F6E, 0x3661};
-    static const uint8_t liquid[] = {0xE2, 0xE3, 0xE4, 0xE5, 0xF1, 0xF3, 0xF5, 0xFE, 0xFA};
+    /* The last of each is one that is refused. */
+    static const uint16_t codes[] = {MFC_SFC6_POINT_TO_TEMPERATURE, MFC_SFC6_POINT_BACK, MFC_SFC6_SET_CONCENTRATION,
+                                     MFC_SFC6_START_MIXTURE0, MFC_SFC6_START_MIXTURE1, MFC_SFC6_SHUT_VALVE,
+                                     MFC_SFC6_NORMAL_CONTROL, 0x3661};
+    static const uint8_t liquid[] = {MFC_LIQUID_WRITE_USER, MFC_LIQUID_READ_USER, MFC_LIQUID_WRITE_ADVANCED,
+                                     MFC_LIQUID_READ_ADVANCED, MFC_LIQUID_FLOW, MFC_LIQUID_TEMPERATURE, MFC_LIQUID_SUPPLY,
+                                     MFC_LIQUID_RESET, 0xFA};
     for (size_t room = 0; room < 7; room++) {
         begin("mfc_write_sfc6");
         struct lent out = lend(0, NULL, room);
-        mfc_written written = mfc_write_sfc6(codes[below(8)], any() % 1002, out.bytes, room);
+        mfc_written written = mfc_write_sfc6(codes[below(sizeof codes / sizeof codes[0])], any() % 1002, out.bytes, room);
         fold(written.refusal);
         fold(written.length);
         take_back(out);
         begin("mfc_write_liquid");
         out = lend(0, NULL, room);
-        written = mfc_write_liquid(liquid[below(9)], (uint16_t)any(), out.bytes, room);
+        written = mfc_write_liquid(liquid[below(sizeof liquid)], (uint16_t)any(), out.bytes, room);
         fold(written.refusal);
         fold(written.length);
         take_back(out);
@@ -401,42 +389,42 @@ static void numbers(void)
 static void writers(uint8_t *frame, size_t *length)
 {
     /* A product type's text makes the largest frames, so it is asked for more often than the rest. */
-    uint8_t request = (uint8_t)(below(4) ? below(21) : 20);
-    mfc_written needed = write_request(wire_byte(), request, 1, NULL, 64);
+    uint8_t request = (uint8_t)(below(4) ? below(REQUESTS) : MFC_REQUEST_PRODUCT_TYPE);
+    mfc_written needed = write_request(wire_byte(), request, 1, NULL, MFC_REQUEST_ROOM);
     write_request(wire_byte(), request, 1, NULL, needed.length > 0 ? needed.length - 1 : 0);
     write_request_at(below(40), below(44));
     write_request_at(30, 30 - below(20));
-    static const uint8_t replies[] = {1, 0, 2, 3, 0, 4, 0, 5, 6, 7, 8, 9, 10, 11, 0, 0, 12, 0, 13, 0, 14};
+    uint8_t expected = commands[request].reply;
     uint8_t address = (uint8_t)below(255);
     size_t text_length = below(4) ? below(12) : below(2) ? below(300) : 252 + below(5);
-    mfc_written reply = write_reply(address, request, replies[request], text_length, frame, 600);
+    mfc_written reply = write_reply(address, request, expected, text_length, frame, MFC_REPLY_ROOM);
     if (reply.refusal == 0) {
-        write_reply(address, request, replies[request], text_length, NULL, reply.length);
-        write_reply(address, request, replies[request], text_length, NULL, reply.length - 1);
+        write_reply(address, request, expected, text_length, NULL, reply.length);
+        write_reply(address, request, expected, text_length, NULL, reply.length - 1);
     }
-    write_reply(address, request, (uint8_t)below(18), text_length, NULL, below(40));
+    write_reply(address, request, (uint8_t)below(REPLIES + 2), text_length, NULL, below(40));
     *length = reply.length;
     if (below(2)) {
-        *length = write_request(address, request, any(), frame, 64).length;
+        *length = write_request(address, request, any(), frame, MFC_REQUEST_ROOM).length;
     }
 }
 
 /* Feeds a stream in pieces, with short room and marks between them; each body goes to the readers. */
 static void receive(const uint8_t *stream, size_t length)
 {
-    uint8_t record[RECORD + 8], frame[FRAME];
+    uint8_t record[MFC_RECORD_SIZE + 8], frame[MFC_FRAME_ROOM];
     memset(record, 0, sizeof record);
-    fresh((uint8_t)below(3), record, RECORD + below(8));
-    fresh(0, record, below(RECORD));
+    fresh((uint8_t)below(3), record, MFC_RECORD_SIZE + below(8));
+    fresh(MFC_KIND_REQUEST, record, below(MFC_RECORD_SIZE));
     size_t at = 0;
     while (at < length) {
         size_t left = length - at;
         size_t n = below(left < 90 ? left + 1 : 90);
         if (below(8) == 0) {
-            feed(record, stream + at, n, frame, below(FRAME));
+            feed(record, stream + at, n, frame, below(MFC_FRAME_ROOM));
         }
-        mfc_fed fed = feed(record, stream + at, n, frame, FRAME);
-        if (fed.refusal == 2) {
+        mfc_fed fed = feed(record, stream + at, n, frame, MFC_FRAME_ROOM);
+        if (fed.refusal == MFC_REFUSAL_BAD_RECORD) {
             return;
         }
         if (fed.frame_length > 0) {
@@ -444,10 +432,10 @@ static void receive(const uint8_t *stream, size_t length)
         }
         at += fed.taken;
         if (below(16) == 0) {
-            silence(record, RECORD);
+            silence(record, MFC_RECORD_SIZE);
         }
     }
-    silence(record, RECORD - below(4));
+    silence(record, MFC_RECORD_SIZE - below(4));
     silence(record, 0);
 }
 
@@ -456,7 +444,7 @@ static void one_round(void)
     uint8_t stream[2048];
     size_t length = 0;
     for (int parts = 0; parts < 3; parts++) {
-        uint8_t frame[600];
+        uint8_t frame[MFC_REPLY_ROOM];
         size_t n = 0;
         writers(frame, &n);
         if (n > 0 && below(3) == 0) {

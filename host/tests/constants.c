@@ -1,0 +1,204 @@
+/*
+ * The constants of mfc.h against the library: each size is tried at its last byte and one under it, each list of numbers over every
+ * number that there is.
+ *
+ * usage: constants NAME; the name stands before the summary.
+ */
+#include <stdio.h>
+#include <string.h>
+
+#include "commands.h"
+
+static unsigned long cases, failures;
+
+static void expect(int good, const char *what, unsigned long which)
+{
+    cases++;
+    if (!good) {
+        failures++;
+        printf("FAILED constants: %s (%lu)\n", what, which);
+    }
+}
+
+static const uint8_t specials[4] = {0x7E, 0x7D, 0x11, 0x13}; /* the bytes that are stuffed */
+
+/* ---- Sizes */
+
+static void record_size(void)
+{
+    uint8_t record[MFC_RECORD_SIZE + 8];
+    for (size_t size = 0; size <= sizeof record; size++) {
+        uint8_t refusal = mfc_receiver_fresh(MFC_KIND_REPLY, record, size);
+        expect(refusal == (size < MFC_RECORD_SIZE ? MFC_REFUSAL_NO_ROOM : 0), "a fresh record of this size", size);
+    }
+    for (size_t size = 0; size <= sizeof record; size++) {
+        uint8_t refusal = mfc_silence(record, size);
+        expect(refusal == (size < MFC_RECORD_SIZE ? MFC_REFUSAL_BAD_RECORD : 0), "a record of this size", size);
+    }
+}
+
+static void frame_room(void)
+{
+    uint8_t record[MFC_RECORD_SIZE], frame[MFC_FRAME_ROOM + 8];
+    const uint8_t one = 0x7E;
+    mfc_receiver_fresh(MFC_KIND_REPLY, record, sizeof record);
+    for (size_t room = 0; room <= sizeof frame; room++) {
+        mfc_fed fed = mfc_feed(record, sizeof record, &one, 1, frame, room);
+        expect(fed.refusal == (room < MFC_FRAME_ROOM ? MFC_REFUSAL_NO_ROOM : 0), "so much room for a frame", room);
+    }
+}
+
+/* Every request to every address, with every value of stuffed bytes and some others. */
+static void request_room(void)
+{
+    static const uint32_t others[] = {0, 1, 254, 9600, 115200, 0xFFFFFFFF};
+    uint8_t out[MFC_REQUEST_ROOM];
+    size_t longest = 0;
+    for (uint8_t request = 0; request < REQUESTS; request++) {
+        for (unsigned address = 0; address < 256; address++) {
+            for (unsigned v = 0; v < 256 + sizeof others / sizeof others[0]; v++) {
+                uint32_t value = v >= 256 ? others[v - 256]
+                                          : (uint32_t)specials[v >> 6] << 24 | (uint32_t)specials[v >> 4 & 3] << 16
+                                                | (uint32_t)specials[v >> 2 & 3] << 8 | specials[v & 3];
+                mfc_written written = mfc_write_request((uint8_t)address, request, value, out, sizeof out);
+                expect(written.refusal != MFC_REFUSAL_NO_ROOM, "a request longer than MFC_REQUEST_ROOM", request);
+                longest = written.length > longest ? written.length : longest;
+            }
+        }
+    }
+    expect(longest == MFC_REQUEST_ROOM, "the longest request is shorter", longest);
+}
+
+/* Texts of nothing but stuffed bytes, from addresses that are stuffed: among so many sums some checksums are stuffed too. */
+static void reply_room(void)
+{
+    uint8_t text[254], out[MFC_REPLY_ROOM];
+    size_t longest = 0;
+    for (size_t a = 0; a < 4; a++) {
+        for (size_t first = 0; first <= sizeof text; first++) {
+            memset(text, specials[a], sizeof text);
+            memset(text, specials[(a + 1) % 4], first);
+            mfc_written written = mfc_write_reply(specials[a], MFC_REQUEST_PRODUCT_TYPE, 0, MFC_REPLY_PRODUCT_TYPE, 0, text,
+                                                  sizeof text, 1, out, sizeof out);
+            expect(written.refusal == 0, "a reply longer than MFC_REPLY_ROOM", first);
+            longest = written.length > longest ? written.length : longest;
+        }
+    }
+    expect(longest == MFC_REPLY_ROOM, "the longest reply is shorter", longest);
+}
+
+/* ---- Numbers by their names */
+
+/* The requests of 01's table: the frame of each has that command and subcommand, and takes that reply and no other but an error. */
+static void requests_and_replies(void)
+{
+    for (uint8_t request = 0; request < REQUESTS; request++) {
+        uint8_t out[MFC_REPLY_ROOM];
+        uint32_t value = request == MFC_REQUEST_SET_BAUD ? 9600 : 1;
+        mfc_written written = mfc_write_request(0, request, value, out, sizeof out);
+        expect(written.refusal == 0 && out[2] == commands[request].command, "another command", request);
+        expect(commands[request].subcommand == NONE || out[4] == commands[request].subcommand, "another subcommand", request);
+        for (uint8_t reply = 0; reply < REPLIES; reply++) {
+            int suits = reply == commands[request].reply || reply == MFC_REPLY_DEVICE_ERROR;
+            uint32_t answer = reply == MFC_REPLY_BAUD ? 9600 : 1;
+            written = mfc_write_reply(0, request, value, reply, answer, NULL, 0, 0, out, sizeof out);
+            expect(written.refusal == (suits ? 0 : MFC_REFUSAL_FOREIGN_REPLY), "a reply to the request", request);
+        }
+    }
+    uint8_t out[MFC_REPLY_ROOM];
+    expect(mfc_write_request(0, REQUESTS, 1, out, sizeof out).refusal == MFC_REFUSAL_UNKNOWN_COMMAND, "one more request", REQUESTS);
+}
+
+/* 01: the body 00 45 00 BA is a request, and too short for a reply. */
+static void kinds(void)
+{
+    static const uint8_t wire[] = {0x7E, 0x00, 0x45, 0x00, 0xBA, 0x7E};
+    uint8_t record[MFC_RECORD_SIZE], frame[MFC_FRAME_ROOM];
+    for (unsigned kind = 0; kind < 256; kind++) {
+        int known = kind == MFC_KIND_REQUEST || kind == MFC_KIND_REPLY;
+        uint8_t refusal = mfc_receiver_fresh((uint8_t)kind, record, sizeof record);
+        expect(refusal == (known ? 0 : MFC_REFUSAL_OUT_OF_RANGE), "a kind of receiver", kind);
+        if (known) {
+            mfc_fed fed = mfc_feed(record, sizeof record, wire, sizeof wire, frame, sizeof frame);
+            expect(kind == MFC_KIND_REQUEST ? fed.frame_length == 4 : fed.refusal == MFC_REFUSAL_BODY_TOO_SHORT,
+                   "a request's frame", kind);
+        }
+    }
+}
+
+/* 01, examples 9 and 10. */
+static void start_values(void)
+{
+    expect(mfc_crc(MFC_START_LIQUID, (const uint8_t[]){0x0E, 0x00}, 2) == 0x6D, "the liquid sensors' start value", 0);
+    expect(mfc_crc(MFC_START_SFC6, (const uint8_t[]){0xBE, 0xEF}, 2) == 0x92, "the start value of SFC6", 0);
+}
+
+/* The bytes that a command takes by its code, 0 where it is none. */
+static size_t sfc6_length(unsigned code)
+{
+    switch (code) {
+    case MFC_SFC6_POINT_TO_TEMPERATURE:
+    case MFC_SFC6_POINT_BACK:
+    case MFC_SFC6_SHUT_VALVE:
+    case MFC_SFC6_NORMAL_CONTROL: return 2;
+    case MFC_SFC6_SET_CONCENTRATION:
+    case MFC_SFC6_START_MIXTURE0:
+    case MFC_SFC6_START_MIXTURE1: return 5;
+    default: return 0;
+    }
+}
+
+static size_t liquid_length(unsigned code)
+{
+    switch (code) {
+    case MFC_LIQUID_READ_USER:
+    case MFC_LIQUID_READ_ADVANCED:
+    case MFC_LIQUID_FLOW:
+    case MFC_LIQUID_TEMPERATURE:
+    case MFC_LIQUID_SUPPLY:
+    case MFC_LIQUID_RESET: return 1;
+    case MFC_LIQUID_WRITE_USER:
+    case MFC_LIQUID_WRITE_ADVANCED: return 3;
+    default: return 0;
+    }
+}
+
+static void i2c_codes(void)
+{
+    uint8_t out[5];
+    for (unsigned code = 0; code < 65536; code++) {
+        mfc_written written = mfc_write_sfc6((uint16_t)code, 1000, out, sizeof out);
+        expect(written.length == sfc6_length(code), "a code of SFC6", code);
+    }
+    for (unsigned code = 0; code < 256; code++) {
+        mfc_written written = mfc_write_liquid((uint8_t)code, 0, out, sizeof out);
+        expect(written.length == liquid_length(code), "a code of liquid sensors", code);
+    }
+    /* the names, as 01 has them */
+    static const struct { unsigned constant, code; } names[] = {
+        {MFC_SFC6_POINT_TO_TEMPERATURE, 0xE102}, {MFC_SFC6_POINT_BACK, 0xE000}, {MFC_SFC6_SET_CONCENTRATION, 0xE17D},
+        {MFC_SFC6_START_MIXTURE0, 0x3650}, {MFC_SFC6_START_MIXTURE1, 0x365B}, {MFC_SFC6_SHUT_VALVE, 0x3FEF},
+        {MFC_SFC6_NORMAL_CONTROL, 0x3F6E}, {MFC_LIQUID_WRITE_USER, 0xE2}, {MFC_LIQUID_READ_USER, 0xE3},
+        {MFC_LIQUID_WRITE_ADVANCED, 0xE4}, {MFC_LIQUID_READ_ADVANCED, 0xE5}, {MFC_LIQUID_FLOW, 0xF1},
+        {MFC_LIQUID_TEMPERATURE, 0xF3}, {MFC_LIQUID_SUPPLY, 0xF5}, {MFC_LIQUID_RESET, 0xFE},
+    };
+    for (size_t i = 0; i < sizeof names / sizeof names[0]; i++) {
+        expect(names[i].constant == names[i].code, "a code's name", names[i].code);
+    }
+}
+
+int main(int argc, char **argv)
+{
+    static void (*const sections[])(void) = {record_size, frame_room,   request_room, reply_room, requests_and_replies,
+                                             kinds,       start_values, i2c_codes};
+    const int count = sizeof sections / sizeof sections[0];
+    if (argc != 2) {
+        fprintf(stderr, "usage: constants NAME\n");
+        return 2;
+    }
+    for (int i = 0; i < count; i++) {
+        sections[i]();
+    }
+    printf("%s: %d sections, %lu cases, %lu failures\n", argv[1], count, cases, failures);
+    return failures != 0;
+}
