@@ -126,6 +126,41 @@ static void kinds(void)
     }
 }
 
+/* What a receiver of requests answers to a stretch of bytes between two 7E. */
+static uint8_t refusal_of(const uint8_t *stretch, size_t n)
+{
+    uint8_t record[MFC_RECORD_SIZE], frame[MFC_FRAME_ROOM], wire[600] = {0x7E};
+    memcpy(wire + 1, stretch, n);
+    wire[n + 1] = 0x7E;
+    mfc_receiver_fresh(MFC_KIND_REQUEST, record, sizeof record);
+    return mfc_feed(record, sizeof record, wire, n + 2, frame, sizeof frame).refusal;
+}
+
+/* Those that are not named elsewhere here: something that 01's table says is refused so. */
+static void refusals(void)
+{
+    static const uint8_t begun[] = {0x7E, 0x00}, error[] = {0x00, 0x46, 0x20, 0x00, 0x99}, zeros[260] = {0};
+    uint8_t record[MFC_RECORD_SIZE], frame[MFC_FRAME_ROOM], out[MFC_REQUEST_ROOM];
+    uint16_t word;
+    expect(refusal_of((const uint8_t[]){0x7D, 0x41}, 2) == MFC_REFUSAL_BAD_ESCAPE, "7D 41", 3);
+    expect(refusal_of((const uint8_t[]){0x11}, 1) == MFC_REFUSAL_BARE_CONTROL, "a bare 11", 4);
+    expect(refusal_of(zeros, sizeof zeros) == MFC_REFUSAL_BODY_TOO_LONG, "a body of 260 bytes", 5);
+    expect(refusal_of((const uint8_t[]){0x00, 0x45, 0x01, 0xB9}, 4) == MFC_REFUSAL_WRONG_LENGTH, "L of 1 without data", 7);
+    expect(refusal_of((const uint8_t[]){0x00, 0x45, 0x00, 0xBB}, 4) == MFC_REFUSAL_WRONG_CHECKSUM, "checksum BB for BA", 8);
+    mfc_receiver_fresh(MFC_KIND_REQUEST, record, sizeof record);
+    mfc_feed(record, sizeof record, begun, sizeof begun, frame, sizeof frame);
+    expect(mfc_silence(record, sizeof record) == MFC_REFUSAL_CUT_BY_SILENCE, "a frame cut off", 9);
+    expect(mfc_write_request(255, MFC_REQUEST_SET_ADDRESS, 1, out, sizeof out).refusal == MFC_REFUSAL_ADDRESS_BROADCAST,
+           "set address for all", 10);
+    expect(mfc_write_request(0, MFC_REQUEST_SET_GAIN, 0x7F800000, out, sizeof out).refusal == MFC_REFUSAL_BAD_FLOAT,
+           "an infinite gain", 13);
+    mfc_reply reply = mfc_read_reply(0, MFC_REQUEST_VOLATILE_CALIBRATION, 1, error, sizeof error);
+    expect(reply.refusal == MFC_REFUSAL_DEVICE_ERROR && reply.code == 32, "01, example 8", 15);
+    expect(mfc_read_words(MFC_START_SFC6, zeros, 2, &word, 1).refusal == MFC_REFUSAL_BAD_WORD_COUNT, "two bytes", 16);
+    expect(mfc_read_words(MFC_START_SFC6, zeros, 3, &word, 1).refusal == MFC_REFUSAL_WRONG_CRC, "00 00 00 of SFC6", 17);
+    expect(mfc_scaled(1, 0, 0).refusal == MFC_REFUSAL_BAD_SCALE, "scale 0", 18);
+}
+
 /* 01, examples 9 and 10. */
 static void start_values(void)
 {
@@ -189,8 +224,8 @@ static void i2c_codes(void)
 
 int main(int argc, char **argv)
 {
-    static void (*const sections[])(void) = {record_size, frame_room,   request_room, reply_room, requests_and_replies,
-                                             kinds,       start_values, i2c_codes};
+    static void (*const sections[])(void) = {record_size, frame_room, request_room, reply_room, requests_and_replies,
+                                             kinds,       refusals,   start_values, i2c_codes};
     const int count = sizeof sections / sizeof sections[0];
     if (argc != 2) {
         fprintf(stderr, "usage: constants NAME\n");
