@@ -1,5 +1,6 @@
 // A receiver whose record is the first RECORD_SIZE bytes of a lent slice.
 use crate::answers::MfcFed;
+use crate::sizes::RECORD_SIZE;
 use receiver::Answer;
 use receiver::Made;
 use receiver::Mode;
@@ -85,7 +86,7 @@ fn low(n: usize) -> u8
 fn load(lent: &[u8]) -> Loaded
     ensures { λ r. ⌜ paperLoaded r (storeIn (now (lent .entry))) ≡ fieldsIn (now (lent .entry)) ⌝ }
 {
-    if lent.len() < 264 {
+    if lent.len() < RECORD_SIZE {
         return Loaded::BadRecord;
     }
     let KindAt::Known(kind) = kind_at(lent[0]) else {
@@ -158,13 +159,13 @@ fn refusal_in(answer: Answer) -> u8
 pub extern "C" fn mfc_receiver_fresh(kind: u8, record: &mut [u8]) -> u8
     ensures { λ r. ⌜ (r, now («record» .exit)) ≡ freshRecord kind (now («record» .entry)) ⌝ }
 {
-    if record.len() < 264 {
+    if record.len() < RECORD_SIZE {
         return refusal::number(Refusal::NoRoom);
     }
     let KindAt::Known(known) = kind_at(kind) else {
         return refusal::number(Refusal::OutOfRange);
     };
-    match receiver::fresh(known, &mut record[4..264]) {
+    match receiver::fresh(known, &mut record[4..RECORD_SIZE]) {
         Made::Fresh(r) => {
             put_head(record, r);
             0
@@ -185,7 +186,7 @@ pub extern "C" fn mfc_feed(record: &mut [u8], piece: &[u8], frame: &mut [u8]) ->
     let Loaded::Held(r) = load(record) else {
         return of_answer(Answer::Refused(Refusal::BadRecord), 0);
     };
-    let f = receiver::feed(r, &mut record[4..264], piece, frame);
+    let f = receiver::feed(r, &mut record[4..RECORD_SIZE], piece, frame);
     let next = f.receiver;
     let taken = f.taken;
     let answer = f.answer;
@@ -203,7 +204,7 @@ pub extern "C" fn mfc_silence(record: &mut [u8]) -> u8
     let Loaded::Held(r) = load(record) else {
         return refusal::number(Refusal::BadRecord);
     };
-    let q = receiver::silence(r, &record[4..264]);
+    let q = receiver::silence(r, &record[4..RECORD_SIZE]);
     let next = q.receiver;
     let answer = q.answer;
     put_place(record, next);
