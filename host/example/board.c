@@ -5,7 +5,6 @@
 #include "sensors.h"
 #include "truth.h"
 
-#define MOST_WORDS 3
 #define FLOW_CONTROL 0x0800u      /* bit 11 of the status word */
 
 /* What the two devices know. */
@@ -16,8 +15,7 @@ static struct {
     uint16_t user;                /* its user register */
 } board = { 0, 0, 0, 0, 0, MFC_LIQUID_FLOW, TRUE_USER_REGISTER };
 
-static struct damage damage = { { 0, 0, 0 }, { 0, 0, 0 }, { 0, 0, 0 }, { 0, 0, 0 }, { 0, 0, 0 }, { 0, 0, 0 }, { 0, 0, 0 },
-                                { 0, 0, 0 }, 1 };
+static struct damage damage;
 static unsigned long damaged;
 
 void board_damage(struct rate flip) { damage.flip = flip; }

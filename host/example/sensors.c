@@ -2,7 +2,6 @@
 
 #include "bus.h"
 
-#define MOST_WORDS 3
 #define TRIES 20                 /* of a register that is read over a bad bus */
 
 /* How a reading's word is scaled: 001, section 3.5.1 (version 5slm); 000, section 4.6, and a flow sensor's own data sheet. */

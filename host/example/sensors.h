@@ -7,6 +7,9 @@
 /* The makers' addresses. */
 enum { SFC6_DEVICE = 0x24, LIQUID_DEVICE = 0x40 };
 
+/* What one read can give: flow, a reserved value and the status of an SFC6. */
+#define MOST_WORDS 3
+
 /* What became of one reading. */
 struct reading {
     int acknowledged;            /* 0: the device is not there, or has nothing to say */
