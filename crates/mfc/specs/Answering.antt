@@ -1,6 +1,6 @@
 -- The C interface, replies by their numbers: 0 acknowledged, then 1 to 14 in the order of 01's table, and 15 a device error.
-use Prim.Native.Nat.{ℕ, min}
-use mathlib.Core.Bool.{Bool, true, cond, not, _||_}
+use Prim.Native.Nat.{ℕ}
+use mathlib.Core.Bool.{Bool, true, cond, not}
 use mathlib.Core.List.{List, [], _∷_, _++_}
 use mathlib.Core.Option.{Option, none, some}
 use lib.Dec.{ltb, eqb}
@@ -11,14 +11,14 @@ use Rattle.sfc6.specs.Commands.{requestAt}
 use Rattle.sfc6.specs.Requests.{requestChecks}
 use Rattle.replies.specs.declared.Reply.{Reply}
 use Rattle.replies.specs.declared.Reply.the-variants.{Acknowledged, Setpoint, MeasuredValue, Gain, InitStep, RawFlow, RawConductivity, Temperature, NumberOfCalibrations, Validity, FullScale, Calibration, Address, Baud, ProductType, DeviceError}
-use Rattle.replies.specs.Replies.{bitsOf, readingOf, replyTo, kindOf}
+use Rattle.replies.specs.Replies.{bitsOf, readingOf, kindOf}
 use Rattle.replies.specs.Reader.{Got, value, text, readReply}
 use Rattle.replies.specs.Writer.{writeReply}
 use Rattle.mfc.specs.declared.answers.MfcWritten.{MfcWritten}
 use Rattle.mfc.specs.declared.answers.MfcReply.{MfcReply}
 use Rattle.mfc.specs.Answers.{carriedBy, written, beside}
 
--- the replies, 0 to 14, each waiting for its value: "A float reading crosses as its bits"
+-- the replies, 0 to 14, each waiting for its value; a float reading crosses as its bits
 abbrev pub replies : List (ℕ → Reply)
 replies =
     (λ n. Acknowledged)
@@ -26,40 +26,31 @@ replies =
     ∷ (λ n. MeasuredValue (readingOf n))
     ∷ (λ n. Gain (readingOf n))
     ∷ (λ n. InitStep (readingOf n))
-    ∷ (λ n. RawFlow (min n 65535))
-    ∷ (λ n. RawConductivity (min n 65535))
+    ∷ RawFlow
+    ∷ RawConductivity
     ∷ (λ n. Temperature (readingOf n))
     ∷ NumberOfCalibrations
-    ∷ (λ n. Validity (min n 255))
+    ∷ Validity
     ∷ (λ n. FullScale (readingOf n))
     ∷ Calibration
-    ∷ (λ n. Address (min n 255))
+    ∷ Address
     ∷ Baud
     ∷ (λ n. ProductType)
     ∷ []
 
 -- the reply of a number, 0 to 15, and of its value; 15 is a device error
 abbrev pub replyAt : ℕ → ℕ → Reply
-replyAt place = getD replies place (λ n. DeviceError (min n 255))
+replyAt place = getD replies place DeviceError
 
--- what C can say and no reply is: "A number above is 14 in its place in the order"; "A u16 reading over 65,535 [..] is 12". A byte that
--- is too large is 255, which the writer itself refuses with 12
-abbrev pub unsayable : ℕ → ℕ → Bool
-unsayable place n = cond (eqb place 5 || eqb place 6) (ltb 65535 n) (ltb 15 place)
+-- a number over 15 is no reply: 14 in its place in the order, after the request's own 12, 13, 10
+abbrev pub noReply : ℕ → Request → Answered ℕ
+noReply address request = inOrder (requestChecks address request ++ ((true, number 14) ∷ [])) 0
 
--- 01, Refusal numbers, "Order", for such a reply: the request's own 12, 13, 10, then 14, 12
-unfoldable pub refusalOf : ℕ → Request → ℕ → Answered ℕ
-refusalOf address request place =
-    inOrder
-    (requestChecks address request
-    ++ ((ltb 15 place || eqb address 255 || not (eqb place (kindOf (replyTo request 0))), number 14) ∷ (true, number 12) ∷ []))
-    0
-
--- the writer of a reply and the text beside it: 11 first; "bit7: given, 0 no and else yes"
+-- the writer of a reply, which is given its number and its value, and the text beside it: 11 first; bit 7 is given as 0 for no, else yes
 unfoldable pub writeAnswer : ℕ → ℕ → ℕ → ℕ → ℕ → List ℕ → ℕ → List ℕ → MfcWritten × List ℕ
 writeAnswer address n v place w said bit7 room =
     cond (ltb 20 n) (written (refused (number 11)), room)
-    (cond (unsayable place w) (written (refusalOf address (requestAt n v) place), room)
+    (cond (ltb 15 place) (written (noReply address (requestAt n v)), room)
     (beside written (writeReply address (requestAt n v) (replyAt place w) said (not (eqb bit7 0)) room)))
 
 -- the value that a reply carries, a float by its bits; 0 where it carries none

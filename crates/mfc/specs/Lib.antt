@@ -4,4 +4,5 @@ pub mod Codes
 pub mod Requests
 pub mod Receivers
 pub mod Answering
+pub mod Private
 pub mod Series

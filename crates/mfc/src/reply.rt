@@ -3,24 +3,40 @@ use crate::answers::MfcReply;
 use crate::answers::MfcWritten;
 use crate::answers::not_written;
 use crate::answers::of_written;
-use crate::requests::LAST_REQUEST;
 use crate::requests::place;
 use crate::requests::wide;
 use refusal::Refusal;
 use replies::ReadReply;
 use replies::Reply;
 use sfc6::Request;
-use shdlc::Checked;
+use sfc6::Typed;
 ghost use mathlib.Core.Path.{_≡_};
-ghost use mathlib.Core.Bool.{cond};
-ghost use Rattle.refusal.specs.Refusals.{paper, refused};
+ghost use mathlib.Core.Bool.{false, cond};
+ghost use Prim.Native.Nat.{_%_, _≤_};
+ghost use Rattle.refusal.specs.Refusals.{paper, served, refused};
+ghost use Rattle.sfc6.specs.Requests.{checkRequest};
 ghost use Rattle.replies.specs.Replies.{replyTo, kindOf};
 ghost use Rattle.replies.specs.Paper.{paperRead};
-ghost use Rattle.mfc.specs.Answering.{replyAt, unsayable, refusalOf, valueOf, replyIn, writeAnswer, readAnswer};
+ghost use Rattle.mfc.specs.Answering.{replyAt, valueOf, replyIn, writeAnswer, readAnswer};
+ghost use Rattle.mfc.specs.Private.{tooWide, refusalOf, writeKnown};
 
-// The reply of its number, 0 to 15, and of its value. A value over a byte becomes 255, which is out of range where a reply carries a byte.
+// The last byte of a number, and the last two.
+fn low(n: u32) -> u8
+    ensures { λ r. ⌜ r ≡ n % 256 ⌝ }
+{
+    (n % 256) as u8
+}
+
+fn low16(n: u32) -> u16
+    ensures { λ r. ⌜ r ≡ n % 65536 ⌝ }
+{
+    (n % 65536) as u16
+}
+
+// The reply of its number, 0 to 15, and of a value that it holds.
 fn reply_of(number: u8, n: u32) -> Reply
-    ensures { λ r. ⌜ r ≡ replyAt number n ⌝ }
+    requires { ⌜ tooWide number n ≡ false ⌝ }
+    ensures { λ r. ⌜ (number ≤ 15 → r ≡ replyAt number n) ⌝ }
 {
     match number {
         0 => Reply::Acknowledged,
@@ -28,17 +44,17 @@ fn reply_of(number: u8, n: u32) -> Reply
         2 => Reply::MeasuredValue(replies::reading_of(n)),
         3 => Reply::Gain(replies::reading_of(n)),
         4 => Reply::InitStep(replies::reading_of(n)),
-        5 => Reply::RawFlow(replies::capped_u16(n)),
-        6 => Reply::RawConductivity(replies::capped_u16(n)),
+        5 => Reply::RawFlow(low16(n)),
+        6 => Reply::RawConductivity(low16(n)),
         7 => Reply::Temperature(replies::reading_of(n)),
         8 => Reply::NumberOfCalibrations(n),
-        9 => Reply::Validity(replies::capped_u8(n)),
+        9 => Reply::Validity(low(n)),
         10 => Reply::FullScale(replies::reading_of(n)),
         11 => Reply::Calibration(n),
-        12 => Reply::Address(replies::capped_u8(n)),
+        12 => Reply::Address(low(n)),
         13 => Reply::Baud(n),
         14 => Reply::ProductType,
-        _ => Reply::DeviceError(replies::capped_u8(n)),
+        _ => Reply::DeviceError(low(n)),
     }
 }
 
@@ -125,34 +141,63 @@ fn value_of(reply: Reply) -> u32
     }
 }
 
-// Whether a number and a value are those of no reply.
-fn is_unsayable(number: u8, n: u32) -> bool
-    ensures { λ r. ⌜ r ≡ unsayable number n ⌝ }
+// Whether a value is wider than what the reply of a number carries.
+fn is_too_wide(number: u8, n: u32) -> bool
+    ensures { λ r. ⌜ r ≡ tooWide number n ⌝ }
 {
     match number {
         5 => 65535 < n,
         6 => 65535 < n,
-        _ => 15 < number,
+        9 => 255 < n,
+        12 => 255 < n,
+        15 => 255 < n,
+        _ => false,
     }
 }
 
-// Why such a reply is not written.
+// Why such a reply is not written: 14, where it is not the one expected, comes before 12.
 fn refusal_of(address: u8, request: Request, number: u8) -> Refusal
     ensures { λ r. ⌜ refused (paper r) ≡ refusalOf address request number ⌝ }
 {
-    if let Checked::Refused(r) = sfc6::check_request(address, request) {
-        return r;
-    }
-    if 15 < number {
-        return Refusal::ForeignReply;
-    }
     if address == 255 {
         return Refusal::ForeignReply;
     }
-    if number != expected(request) {
-        return Refusal::ForeignReply;
+    if number == 15 {
+        return Refusal::OutOfRange;
     }
-    Refusal::OutOfRange
+    if number == expected(request) {
+        return Refusal::OutOfRange;
+    }
+    Refusal::ForeignReply
+}
+
+// Writes the frame of the reply to a request that passes its own checks.
+fn write_known(
+    address: u8,
+    request: Request,
+    reply: u8,
+    n: u32,
+    text: &[u8],
+    bit7: u8,
+    out: &mut [u8],
+) -> MfcWritten
+    requires { ⌜ checkRequest address request ≡ served (address, request) ⌝ }
+    ensures { λ r. ⌜ (r, now (out .exit)) ≡ writeKnown address request reply n (now (text .entry)) bit7 (now (out .entry)) ⌝ }
+{
+    if 15 < reply {
+        return not_written(Refusal::ForeignReply);
+    }
+    if is_too_wide(reply, n) {
+        return not_written(refusal_of(address, request, reply));
+    }
+    of_written(replies::write_reply(
+        address,
+        request,
+        reply_of(reply, n),
+        text,
+        bit7 != 0,
+        out,
+    ))
 }
 
 // Writes the frame of the reply to a request. The n bytes of text are those of a product type; beside any other reply they are not looked
@@ -174,21 +219,10 @@ pub extern "C" fn mfc_write_reply(
 ) -> MfcWritten
     ensures { λ r. ⌜ (r, now (out .exit)) ≡ writeAnswer address request value reply «reply_value» (now (text .entry)) bit7 (now (out .entry)) ⌝ }
 {
-    if LAST_REQUEST < request {
-        return not_written(Refusal::UnknownCommand);
+    match sfc6::request_of(address, place(request), value) {
+        Typed::Refused(r) => not_written(r),
+        Typed::Known(asked) => write_known(address, asked, reply, reply_value, text, bit7, out),
     }
-    let asked = sfc6::request_of(place(request), value);
-    if is_unsayable(reply, reply_value) {
-        return not_written(refusal_of(address, asked, reply));
-    }
-    of_written(replies::write_reply(
-        address,
-        asked,
-        reply_of(reply, reply_value),
-        text,
-        bit7 != 0,
-        out,
-    ))
 }
 
 fn bit(set: bool) -> u8
@@ -254,8 +288,8 @@ fn of_read(r: ReadReply) -> MfcReply
 pub extern "C" fn mfc_read_reply(address: u8, request: u8, value: u32, body: &[u8]) -> MfcReply
     ensures { λ r. ⌜ r ≡ readAnswer address request value (now (body .entry)) ⌝ }
 {
-    if LAST_REQUEST < request {
-        return not_read(Refusal::UnknownCommand);
+    match sfc6::request_of(address, place(request), value) {
+        Typed::Refused(r) => not_read(r),
+        Typed::Known(asked) => of_read(replies::read_reply(address, asked, body)),
     }
-    of_read(replies::read_reply(address, sfc6::request_of(place(request), value), body))
 }

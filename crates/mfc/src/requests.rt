@@ -1,9 +1,7 @@
 // Requests of the SFC6 family by their numbers, written and read.
 use crate::answers::MfcRequest;
 use crate::answers::MfcWritten;
-use crate::answers::not_written;
 use crate::answers::of_written;
-use refusal::Refusal;
 use sfc6::ReadRequest;
 use sfc6::Request;
 ghost use mathlib.Core.Path.{_≡_};
@@ -11,10 +9,10 @@ ghost use Rattle.shdlc.specs.Checksum.{checksumOf};
 ghost use Rattle.sfc6.specs.Paper.{paperRead};
 ghost use Rattle.sfc6.specs.Reading.{readRequest};
 ghost use Rattle.sfc6.specs.Commands.{placeOf};
-ghost use Rattle.mfc.specs.Requests.{request, writeNumbered, appendNumbered};
-
-// The number of the last request.
-pub(crate) const LAST_REQUEST: u8 = 20;
+ghost use Rattle.sfc6.specs.Requests.{writeNumbered};
+ghost use Rattle.sfc6.specs.Rounds.{appendNumbered};
+ghost use Rattle.mfc.specs.Answers.{written, beside};
+ghost use Rattle.mfc.specs.Requests.{request};
 
 // The checksum of the n bytes of a body before it: 255 minus their sum modulo 256. It refuses nothing.
 #[no_mangle]
@@ -46,11 +44,8 @@ pub extern "C" fn mfc_write_request(
     value: u32,
     out: &mut [u8],
 ) -> MfcWritten
-    ensures { λ r. ⌜ (r, now (out .exit)) ≡ writeNumbered address request value (now (out .entry)) ⌝ }
+    ensures { λ r. ⌜ (r, now (out .exit)) ≡ beside written (writeNumbered address request value (now (out .entry))) ⌝ }
 {
-    if LAST_REQUEST < request {
-        return not_written(Refusal::UnknownCommand);
-    }
     of_written(sfc6::write_numbered(address, place(request), value, out))
 }
 
@@ -64,16 +59,14 @@ pub extern "C" fn mfc_write_request_at(
     request: u8,
     value: u32,
 ) -> MfcWritten
-    ensures { λ r. ⌜ (r, now (buffer .exit)) ≡ appendNumbered (now (buffer .entry)) start address request value ⌝ }
+    ensures { λ r. ⌜ (r, now (buffer .exit)) ≡ beside written (appendNumbered (now (buffer .entry)) start address request value) ⌝ }
 {
-    if LAST_REQUEST < request {
-        return not_written(Refusal::UnknownCommand);
-    }
-    of_written(sfc6::append_request(
+    of_written(sfc6::append_numbered(
         buffer,
         start,
         address,
-        sfc6::request_of(place(request), value),
+        place(request),
+        value,
     ))
 }
 

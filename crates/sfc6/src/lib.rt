@@ -93,6 +93,9 @@ pub struct Round {
     pub outcome: Checked,
 }
 
+// The number of the last request.
+const LAST: usize = 20;
+
 // Where a row stands in the table.
 enum Found {
     At(usize),
@@ -663,7 +666,7 @@ fn check_at(address: u8, place: usize, n: u32) -> Checked
 pub fn request_of(address: u8, place: usize, n: u32) -> Typed
     ensures { λ r. ⌜ paperTyped r ≡ numbered address place n ⌝ }
 {
-    if 20 < place {
+    if LAST < place {
         return Typed::Refused(Refusal::UnknownCommand);
     }
     if let Checked::Refused(r) = check_at(address, place, n) {
@@ -677,7 +680,7 @@ pub fn request_of(address: u8, place: usize, n: u32) -> Typed
 pub fn write_numbered(address: u8, place: usize, n: u32, out: &mut [u8]) -> Written
     ensures { λ r. ⌜ (paperWritten r, now (out .exit)) ≡ writeNumbered address place n (now (out .entry)) ⌝ }
 {
-    if 20 < place {
+    if LAST < place {
         return Written::Refused(Refusal::UnknownCommand);
     }
     if let Checked::Refused(r) = check_at(address, place, n) {

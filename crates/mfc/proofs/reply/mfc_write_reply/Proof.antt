@@ -1,38 +1,38 @@
 -- `mfc::reply::mfc_write_reply` meets its contract. Assumes nothing.
 use borrow.Author.Needs.{needs}
-use Rattle.mfc.proofs.Numbered.{named}
-use Rattle.mfc.proofs.Replying.{write-above, write-unsayable, write-said}
+use mathlib.Core.Path.{_≡_, ap, _∙_}
+use Prim.Native.Nat.{ℕ}
+use Rattle.sfc6.specs.Requests.{numbered}
+use Rattle.sfc6.specs.Paper.{paperTyped}
+use Rattle.mfc.proofs.Replying.{passes, write-refused, write-known}
 use Rattle.mfc.proofs.reply.mfc_write_reply.Statement.{statement}
 use Rattle.mfc.proofs.reply.mfc_write_reply.Tie as tie
+
+-- the request of the number given
+asked : (c : tie.After-request-of) → let a = c .before .before .before .before .args in paperTyped (c .request-of .result) ≡ numbered (a .address) (a .request) (a .value)
+asked c =
+    let a = c .before .before .before .before .args in
+    c .request-of .ensures ∙ ap (λ (k : ℕ). numbered (a .address) k (a .value)) (c .before .place .ensures)
 
 pub mfc-write-reply-spec : {M : Type 1} → statement M
 mfc-write-reply-spec =
     tie.close
     (tie.spec
     (λ c κs. search needs)
-    (λ c. write-above _ _ _ _ _ _ _ _ (c .before .if1 .taken) (c .not-written .ensures))
-    (λ c κs. search needs)
-    (λ c κs. search needs)
-    (λ c κs. search needs)
-    (λ c κs. search needs)
-    (λ c κs. search needs)
-    (λ c.
-    let t = c .before .before in
-    let u = t .before in
-    let q = u .before in
-    write-unsayable _ _ _ (q .before .before .before .before .before .args .reply) _ _ _ _ (q .before .before .if1 .left)
-    (named _ _ (q .before .place .ensures) (q .request-of .ensures)) (u .is-unsayable .ensures) (c .before .refusal-of .result) (t .if2 .taken)
-    (c .before .refusal-of .ensures) (c .not-written2 .ensures))
-    (λ c κs. search needs)
-    (λ c κs. search needs)
     (λ c κs. search needs)
     (λ c. search needs)
+    (λ c κs. search needs)
+    (λ c. search needs)
+    (λ c κs. let r = c .before .before in passes _ _ _ (asked (r .before .before)) (r .asked .given .1))
     (λ c.
-    let w = c .before .before .before in
-    let r = w .before .before in
-    let t = r .before in
-    let u = t .before in
-    let q = u .before in
-    let a = q .before .before .before .before .before .args in
-    write-said _ _ _ (a .reply) (a .reply-value) _ _ _ (q .before .before .if1 .left) (named _ _ (q .before .place .ensures) (q .request-of .ensures))
-    (u .is-unsayable .ensures) (t .if2 .left) (r .reply-of .ensures) (w .write-reply .ensures) (c .of-written .ensures)))
+    let r = c .before .before in
+    let q = r .before .before in
+    let a = q .before .before .before .before .args in
+    write-refused _ _ _ (asked q) (a .reply) (a .reply-value) (a .text .now) (a .bit7) (a .out .now) (r .r .given .1) (c .not-written .ensures))
+    (λ c. search needs)
+    (λ c.
+    let w = c .before .before in
+    let r = w .before .before .before in
+    let q = r .before .before in
+    let a = q .before .before .before .before .args in
+    write-known _ _ _ (asked q) (a .reply) (a .reply-value) (a .text .now) (a .bit7) (a .out .now) (r .asked .given .1) (w .write-known .ensures)))
