@@ -134,10 +134,12 @@ module _ (address n v : ℕ) where
           → (t ≡ false) × (requestAt n v ≡ q) × (inOrder {A = ℕ × Request} (requestChecks address q) (address, q) ≡ served (address, q))
       go true h = never (sym h)
       go false h =
-          let e = serves-it (requestChecks address (requestAt n v)) (requestAt n v) h in
-          (refl, e,
-          subst (λ (x : Request). inOrder {A = ℕ × Request} (requestChecks address x) (address, x) ≡ served (address, x)) e
-          (then-more {B = ℕ × Request} (requestAt n v) (address, requestAt n v) [] (requestChecks address (requestAt n v)) h))
+          let e = serves-it (requestChecks address (requestAt n v)) (requestAt n v) h in (
+            refl,
+            e,
+            subst (λ (x : Request). inOrder {A = ℕ × Request} (requestChecks address x) (address, x) ≡ served (address, x)) e
+                (then-more {B = ℕ × Request} (requestAt n v) (address, requestAt n v) [] (requestChecks address (requestAt n v)) h),
+          )
 
   module _ {t : Typed} (is : paperTyped t ≡ numbered address n v) where
     told : {m : Refusal} → t ≡ typed.Refused m → numbered address n v ≡ refused (paper m)
@@ -159,8 +161,11 @@ module _ (address n v : ℕ) where
           ap (λ (x : MfcWritten). (x, room)) r
           ∙ ⊎-elim (λ h. rw (h .0, h .1))
           (λ h.
-          rw (h .0, first-refuses {A = ℕ × Request} {B = ℕ} (address, q) 0 ((true, number 14) ∷ []) (requestChecks address q) (h .1),
-          first-refuses {A = ℕ × Request} (address, q) (frameFor address (row q .command) (contentOf reply) said (not (eqb bit7 0))) (writeChecks address q reply said) (requestChecks address q) (h .1))
+          rw (
+            h .0,
+            first-refuses {A = ℕ × Request} {B = ℕ} (address, q) 0 ((true, number 14) ∷ []) (requestChecks address q) (h .1),
+            first-refuses {A = ℕ × Request} (address, q) (frameFor address (row q .command) (contentOf reply) said (not (eqb bit7 0))) (writeChecks address q reply said) (requestChecks address q) (h .1),
+          )
           (same (ltb 15 place)))
           (refused-by (paper why) (told e))
         where

@@ -190,14 +190,7 @@ fn write_known(
     if is_too_wide(reply, n) {
         return not_written(refusal_of(address, request, reply));
     }
-    of_written(replies::write_reply(
-        address,
-        request,
-        reply_of(reply, n),
-        text,
-        bit7 != 0,
-        out,
-    ))
+    of_written(replies::write_reply(address, request, reply_of(reply, n), text, bit7 != 0, out))
 }
 
 // Writes the frame of the reply to a request. The n bytes of text are those of a product type; beside any other reply they are not looked

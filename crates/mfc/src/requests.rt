@@ -61,13 +61,7 @@ pub extern "C" fn mfc_write_request_at(
 ) -> MfcWritten
     ensures { λ r. ⌜ (r, now (buffer .exit)) ≡ beside written (appendNumbered (now (buffer .entry)) start address request value) ⌝ }
 {
-    of_written(sfc6::append_numbered(
-        buffer,
-        start,
-        address,
-        place(request),
-        value,
-    ))
+    of_written(sfc6::append_numbered(buffer, start, address, place(request), value))
 }
 
 // The number of a request.

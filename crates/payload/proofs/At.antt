@@ -69,7 +69,6 @@ taken-number {n} {m} e f g = let h : served n ≡ served m = e ∙ f ∙ g in cc
 pub taken-never : {A : Type 0} {n : Numbered} {m : ℕ} {a b : Answered ℕ} → refused n ≡ a → a ≡ b → b ≡ served m → A
 taken-never e f g = absurd (refused-not-served (e ∙ f ∙ g))
 
-
 pub ends-past : (n size place width : ℕ) → size ≡ width → size ≤ n → ltb (n - size) place ≡ ltb n (place + width)
 ends-past n size place width e h = subtracts (ltb (n - size) place) n size place refl h ∙ ap (λ (k : ℕ). ltb n (place + k)) e
 

@@ -1,7 +1,7 @@
 // Replies of the SFC6 family, written and read.
+use payload::FieldU8;
 use payload::FieldU16;
 use payload::FieldU32;
-use payload::FieldU8;
 use payload::Placed;
 use payload::Width;
 use refusal::Refusal;

@@ -64,8 +64,8 @@ module _ (r : Row) (payload : List ℕ) (whole : length payload ≡ length (data
   carried-number plain h = (
     h,
     λ a e.
-    let z : addresses known ≡ 1 = ap addresses (sym is ∙ e) in
-    absurd (omega arith),
+        let z : addresses known ≡ 1 = ap addresses (sym is ∙ e) in
+        absurd (omega arith),
   )
 
   pub carried-nothing : addresses known ≡ 0 → length (valueBytes known) ≡ 0 → Carried r payload 0

@@ -1,6 +1,6 @@
 // The typed commands of the SFC6 family: the table, and requests written and read.
-use payload::FieldU32;
 use payload::FieldU8;
+use payload::FieldU32;
 use refusal::Refusal;
 use shdlc::Checked;
 use shdlc::Kind;
@@ -706,7 +706,13 @@ pub fn append_request(buffer: &mut [u8], start: usize, address: u8, request: Req
 }
 
 // The same by the request's number.
-pub fn append_numbered(buffer: &mut [u8], start: usize, address: u8, place: usize, n: u32) -> Written
+pub fn append_numbered(
+    buffer: &mut [u8],
+    start: usize,
+    address: u8,
+    place: usize,
+    n: u32,
+) -> Written
     ensures { λ r. ⌜ (paperWritten r, now (buffer .exit)) ≡ appendNumbered (now (buffer .entry)) start address place n ⌝ }
 {
     let end = room_from(start, buffer.len());

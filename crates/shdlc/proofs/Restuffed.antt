@@ -78,6 +78,7 @@ escaped-again c s body (some b) f next h =
 
 mutual
   unfolding unstuff unstuffEscaped stuff
+
   pub restuffed : (s : List ℕ) → Unbroken s → (body : List ℕ) → unstuff s ≡ served body → stuff body ≡ s
   restuffed [] u body e = ap stuff (sym (served-same [] body e))
   restuffed (b ∷ s) u body e =

@@ -11,81 +11,77 @@ use replies::Reading;
 use replies::Reply;
 use sfc6::Request;
 
-// The place of a request in the table of commands, by its name; 21 where there is none.
-fn place_of(name: &[u8]) -> usize {
+// The request of a name and a number, also of one that is out of its range. A name that is none is put out as such.
+fn named(name: &[u8], n: u32) -> Request {
     if same(name, b"GetSetpoint") {
-        return 0;
+        return Request::GetSetpoint;
     }
     if same(name, b"SetSetpoint") {
-        return 1;
+        return Request::SetSetpoint(sfc6::float_of(n));
     }
     if same(name, b"MeasuredValue") {
-        return 2;
+        return Request::MeasuredValue;
     }
     if same(name, b"GetGain") {
-        return 3;
+        return Request::GetGain;
     }
     if same(name, b"SetGain") {
-        return 4;
+        return Request::SetGain(sfc6::float_of(n));
     }
     if same(name, b"GetInitStep") {
-        return 5;
+        return Request::GetInitStep;
     }
     if same(name, b"SetInitStep") {
-        return 6;
+        return Request::SetInitStep(sfc6::float_of(n));
     }
     if same(name, b"RawFlow") {
-        return 7;
+        return Request::RawFlow;
     }
     if same(name, b"RawConductivity") {
-        return 8;
+        return Request::RawConductivity;
     }
     if same(name, b"Temperature") {
-        return 9;
+        return Request::Temperature;
     }
     if same(name, b"NumberOfCalibrations") {
-        return 10;
+        return Request::NumberOfCalibrations;
     }
     if same(name, b"Validity") {
-        return 11;
+        return Request::Validity(n);
     }
     if same(name, b"FullScale") {
-        return 12;
+        return Request::FullScale;
     }
     if same(name, b"GetCalibration") {
-        return 13;
+        return Request::GetCalibration;
     }
     if same(name, b"SetCalibration") {
-        return 14;
+        return Request::SetCalibration(n);
     }
     if same(name, b"VolatileCalibration") {
-        return 15;
+        return Request::VolatileCalibration(n);
     }
     if same(name, b"GetAddress") {
-        return 16;
+        return Request::GetAddress;
     }
     if same(name, b"SetAddress") {
-        return 17;
+        return Request::SetAddress(byte_of(n));
     }
     if same(name, b"GetBaud") {
-        return 18;
+        return Request::GetBaud;
     }
     if same(name, b"SetBaud") {
-        return 19;
+        return Request::SetBaud(n);
     }
-    if same(name, b"ProductType") {
-        return 20;
-    }
-    21
-}
-
-// The request that a word names. A name that is none is put out as such.
-pub(crate) fn request_of(word: &[u8]) -> Request {
-    let place = place_of(before(word, b'='));
-    if place == 21 {
+    if !same(name, b"ProductType") {
         text(b" no request");
     }
-    sfc6::request_of(place, number(behind(word, b'=')))
+    Request::ProductType
+}
+
+// The request that a word names.
+pub(crate) fn request_of(word: &[u8]) -> Request {
+    named(before(word, b'='), number(behind(word, b'=')))
 }
 
 fn float(name: &[u8], x: f32) {
