@@ -2,68 +2,109 @@
 use libc::STDERR_FILENO;
 use libc::STDIN_FILENO;
 use libc::STDOUT_FILENO;
-use lines::Line;
-use receiver::Answer;
+use lines::Listing;
 use receiver::Made;
-use receiver::Receiver;
 use shdlc::Kind;
 use shdlc::Written;
-ghost use Prim.Native.Nat.{_≤_};
+ghost use mathlib.Core.Path.{_≡_};
+ghost use mathlib.Core.Bool.{true};
+ghost use mathlib.Core.List.{map};
+ghost use Prim.Native.Nat.{_-_, _≤_};
 ghost use lib.ListN.{length};
+ghost use Rattle.shdlc.specs.Stream.{byte};
+ghost use Rattle.receiver.specs.Record.{recordFrom};
+ghost use Rattle.lines.specs.Listing.{paperListing};
 
-// The most bytes that are read.
-const LIMIT: u32 = 4_294_967_295;
-
-// Writes all of a text, or stops at the first write that takes nothing.
-fn write_text(fd: i32, text: &[u8]) {
+// Writes all of a text, or stops at the first write that takes nothing; says whether all was written.
+fn write_text(fd: i32, text: &[u8]) -> bool {
     let mut done: usize = 0;
     while done < text.len() {
         let rest = &text[done..];
         let n = io::count(libc::write(fd, rest), rest);
         if n == 0 {
-            return;
+            return false;
         }
         done += n;
     }
+    true
 }
 
-fn print(line: Line) {
-    let mut text = [0u8; 24];
-    if let Written::Done(n) = lines::write_line(line, &mut text) {
-        write_text(STDOUT_FILENO, &text[..n]);
+fn print(text: &[u8]) -> bool {
+    if write_text(STDOUT_FILENO, text) {
+        return true;
+    }
+    write_text(
+        STDERR_FILENO,
+        b"frames: standard output cannot be written\n",
+    );
+    false
+}
+
+// Where the next line goes, and whether all that had to be written was.
+struct Room {
+    place: usize,
+    ok: bool,
+}
+
+// Prints what the room holds where fewer bytes than are asked for are left in it.
+fn make_room(out: &[u8], filled: usize, need: usize) -> Room
+    requires { ⌜ filled ≤ length (now out) ⌝ }
+    ensures { λ r. ⌜ (r .place ≤ length (now (out .entry))) × (r .ok ≡ true → need ≤ length (now (out .entry)) → need ≤ length (now (out .entry)) - r .place) ⌝ }
+{
+    if out.len() - filled < need {
+        let ok = print(&out[..filled]);
+        return Room { place: 0, ok };
+    }
+    Room {
+        place: filled,
+        ok: true,
     }
 }
 
-fn print_answer(answer: Answer, frame: &[u8])
-    requires { ⌜ 3 ≤ length (now frame) ⌝ }
-{
-    match answer {
-        Answer::Nothing => {}
-        Answer::Frame(_) => print(Line::Frame(frame[0], frame[1], frame[2])),
-        Answer::Refused(why) => print(Line::Refused(why)),
-    }
+// How far the listing is, where the room's text ends, and whether all that had to be written was.
+struct Shown {
+    listing: Listing,
+    filled: usize,
+    ok: bool,
 }
 
-// Feeds a piece until it is used up, and prints each item.
-fn print_items(from: Receiver, store: &mut [u8], piece: &[u8], frame: &mut [u8]) -> Receiver
-    requires { ⌜ 3 ≤ length (now frame) ⌝ }
+// Lists all of a piece: its lines are printed, or stand in the room.
+fn list_piece(from: Listing, store: &mut [u8], piece: &[u8], out: &mut [u8], place: usize) -> Shown
+    requires { ⌜ (length (now piece) ≤ from .left) × (24 ≤ length (now out)) × (place ≤ length (now out)) ⌝ }
+    ensures { λ s. ⌜ (s .filled ≤ length (now (out .entry))) × (s .ok ≡ true → paperListing (s .listing) (now (store .exit)) ≡ record { holds = recordFrom (paperListing from (now (store .entry)) .holds) (map byte (now (piece .entry))); left = from .left - length (now (piece .entry)) }) ⌝ }
 {
-    let mut r = from;
+    let mut l = from;
     let mut at: usize = 0;
+    let mut filled = place;
     while at < piece.len() {
-        let fed = receiver::feed(r, store, &piece[at..], frame);
-        let next = fed.receiver;
-        let taken = fed.taken;
-        let answer = fed.answer;
-        r = next;
-        print_answer(answer, frame);
-        // A fresh record and 260 bytes of room are never refused, so a call takes a byte.
-        if taken == 0 {
-            return r;
+        let room = make_room(out, filled, 24);
+        if !room.ok {
+            return Shown {
+                listing: l,
+                filled: room.place,
+                ok: false,
+            };
         }
+        let more = lines::fill(l, store, &piece[at..], out, room.place);
+        let next = more.listing;
+        let taken = more.taken;
+        let said = more.said;
+        let Written::Done(end) = said else {
+            return Shown {
+                listing: next,
+                filled: 0,
+                ok: false,
+            };
+        };
+        l = next;
         at += taken;
+        filled = end;
     }
-    r
+    Shown {
+        listing: l,
+        filled,
+        ok: true,
+    }
 }
 
 // Reads once, at most as many bytes as are asked for, and answers how many came: 0 at the input's end.
@@ -77,30 +118,44 @@ fn read_some(piece: &mut [u8]) -> usize
     io::count(got, piece)
 }
 
-// How much to ask for: a piece, but no more than is left of the limit.
-fn piece_size(left: u32) -> usize
-    ensures { λ r. ⌜ (r ≤ left) × (r ≤ 1024) ⌝ }
-{
-    if left < 1024 { left as usize } else { 1024 }
+// How much room is asked for after a read: all of it where fewer bytes came than were asked for, since the next read may wait and no
+// line is to be held back.
+fn needed(came: usize, wanted: usize, size: usize) -> usize {
+    if came < wanted { size } else { 24 }
 }
 
 fn main() {
     let mut store = [0u8; 260];
-    let mut frame = [0u8; 260];
-    let mut piece = [0u8; 1024];
+    let mut piece = [0u8; 512];
+    let mut out = [0u8; 768];
     let Made::Fresh(fresh) = receiver::fresh(Kind::Request, &mut store) else {
         return;
     };
-    let mut r = fresh;
-    let mut left = LIMIT;
-    while 0 < left {
-        let want = piece_size(left);
-        let n = read_some(&mut piece[..want]);
+    let mut l = lines::begin(fresh);
+    let mut filled: usize = 0;
+    loop {
+        let wanted = lines::wanted(l.left, 512);
+        let n = read_some(&mut piece[..wanted]);
         if n == 0 {
             break;
         }
-        r = print_items(r, &mut store, &piece[..n], &mut frame);
-        left -= n as u32;
+        let shown = list_piece(l, &mut store, &piece[..n], &mut out, filled);
+        let next = shown.listing;
+        let end = shown.filled;
+        let ok = shown.ok;
+        if !ok {
+            return;
+        }
+        l = next;
+        let room = make_room(&out, end, needed(n, wanted, 768));
+        if !room.ok {
+            return;
+        }
+        filled = room.place;
     }
-    print(Line::End(LIMIT - left));
+    if print(&out[..filled]) {
+        if let Written::Done(n) = lines::end(l, &mut out) {
+            print(&out[..n]);
+        }
+    }
 }

@@ -1,4 +1,7 @@
--- Laws of the text.
+-- Laws of the text and of the listing.
 pub mod Decimal
 pub mod Example
-pub mod Listing
+pub mod Lines
+pub mod Loop
+pub mod Filling
+pub mod EveryListing

@@ -1,27 +1,34 @@
--- 01, The program and the host: "puts out one line per item and a last line with the bytes read".
+-- 01, The program and the host: "The program reads request-side bytes from standard input, at most 4,294,967,295, puts out one line per
+-- item and a last line with the bytes read." For any kind of frame; the program's is Request.
 use Prim.Native.Nat.{ℕ}
 use mathlib.Core.List.{List, [], _∷_, _++_, map}
-use lib.ListN.{length, getD}
+use lib.ListN.{length, getD, take}
 use Rattle.refusal.specs.Refusals.{numberIn, served, refused}
-use Rattle.shdlc.specs.declared.Kind.the-variants.{Request}
+use Rattle.shdlc.specs.declared.Kind.{Kind}
 use Rattle.shdlc.specs.Stream.{byte, Item, items}
-use Rattle.lines.specs.declared.Line.the-variants.{Frame, End}
-use Rattle.lines.specs.Text.{refusedWord, field, textOf}
+use Rattle.lines.specs.Text.{frameLine, refusedLine, endLine}
 
 -- the line of an item: of a frame its address, command and L; of a refusal its number
 unfoldable pub lineOf : Item → List ℕ
-lineOf (served body) = textOf (Frame (getD body 0 0) (getD body 1 0) (getD body 2 0))
-lineOf (refused n) = refusedWord ++ field (numberIn n) 10
+lineOf (served body) = frameLine (getD body 0 0) (getD body 1 0) (getD body 2 0)
+lineOf (refused n) = refusedLine (numberIn n)
 
 unfoldable pub linesOf : List Item → List ℕ
 linesOf [] = []
 linesOf (item ∷ items) = lineOf item ++ linesOf items
 
--- all that the program puts out for the bytes that it reads
-unfoldable pub programText : List ℕ → List ℕ
-programText bytes = linesOf (items Request (map byte bytes)) ++ textOf (End (length bytes))
+-- all that is put out for the bytes read
+unfoldable pub textFor : Kind → List ℕ → List ℕ
+textFor kind bytes = linesOf (items kind (map byte bytes)) ++ endLine (length bytes)
 
--- "Input 7E 00 45 00 BA 7E 11 7E gives exactly three lines: `frame 0 69 0`, `refused 4`, `end 8`."
+abbrev pub limit : ℕ
+limit = 4294967295
+
+-- all that the program puts out for what stands in its standard input
+unfoldable pub programText : Kind → List ℕ → List ℕ
+programText kind input = textFor kind (take limit input)
+
+-- "Input 7E 00 45 00 BA 7E 11 7E gives exactly three lines: `frame 0 69 0` (address, command, L), `refused 4`, `end 8`."
 abbrev pub exampleInput : List ℕ
 exampleInput = 0x7E ∷ 0x00 ∷ 0x45 ∷ 0x00 ∷ 0xBA ∷ 0x7E ∷ 0x11 ∷ 0x7E ∷ []
 

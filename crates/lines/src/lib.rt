@@ -1,26 +1,24 @@
-// The lines that a program prints of a stream's items.
+// The lines that the program puts out of a stream's items.
 use receiver::Answer;
 use receiver::Receiver;
 use refusal::Refusal;
 use shdlc::Written;
 ghost use mathlib.Core.Path.{_≡_};
-ghost use Prim.Native.Nat.{_+_, _≤_};
+ghost use mathlib.Core.Bool.{true};
+ghost use Prim.Native.Nat.{_+_, _-_, _≤_, min};
 ghost use lib.ListN.{length, getD, take};
 ghost use Rattle.refusal.specs.Room.{overlay, emit};
+ghost use Rattle.refusal.specs.Refusals.{served, numberOf};
 ghost use Rattle.shdlc.specs.Paper.{paperWritten};
-ghost use Rattle.refusal.specs.Refusals.{paper, served};
-ghost use Rattle.receiver.specs.Record.{held};
+ghost use Rattle.receiver.specs.Record.{held, inRange};
 ghost use Rattle.receiver.specs.Calls.{paperAnswer};
-ghost use Rattle.lines.specs.Text.{decimal, field, textOf};
-ghost use Rattle.lines.specs.Program.{lineOf};
-ghost use Rattle.lines.specs.Listing.{laidLine, laidRefusal, laid, paperListed, listOf};
+ghost use Rattle.lines.specs.Text.{decimal, field, frameLine, refusedLine, endLine};
+ghost use Rattle.lines.specs.Program.{lineOf, limit};
+ghost use Rattle.lines.specs.Listing.{paperListing, paperFilled, fillOf};
+ghost use Rattle.lines.specs.Private.{saidLine, paperListed, listOf};
 
-// A line: a frame's address, command and L; a refusal; the number of bytes read.
-pub enum Line {
-    Frame(u8, u8, u8),
-    Refused(Refusal),
-    End(u32),
-}
+// The most bytes that are read.
+const LIMIT: u32 = 4_294_967_295;
 
 // Writes a number in decimal from a place on, and answers the place after it.
 fn put_decimal(out: &mut [u8], place: usize, n: u32) -> usize
@@ -61,62 +59,31 @@ fn put_field(out: &mut [u8], place: usize, n: u32, after: u8) -> usize
     last + 1
 }
 
-fn put_frame(out: &mut [u8], address: u8, command: u8, l: u8) -> usize
-    requires { ⌜ 24 ≤ length (now out) ⌝ }
-    ensures { λ r. ⌜ (r ≡ length (textOf (Line.Frame address command l))) × (now (out .exit) ≡ overlay (now (out .entry)) 0 (textOf (Line.Frame address command l))) ⌝ }
+fn put_frame(out: &mut [u8], place: usize, address: u8, command: u8, l: u8) -> usize
+    requires { ⌜ place + 24 ≤ length (now out) ⌝ }
+    ensures { λ r. ⌜ (r ≡ place + length (frameLine address command l)) × (now (out .exit) ≡ overlay (now (out .entry)) place (frameLine address command l)) ⌝ }
 {
-    let first = put_bytes(out, 0, b"frame ");
+    let first = put_bytes(out, place, b"frame ");
     let second = put_field(out, first, address as u32, b' ');
     let third = put_field(out, second, command as u32, b' ');
     put_field(out, third, l as u32, b'\n')
 }
 
-fn put_refused(out: &mut [u8], why: Refusal) -> usize
-    requires { ⌜ 24 ≤ length (now out) ⌝ }
-    ensures { λ r. ⌜ (r ≡ length (textOf (Line.Refused why))) × (now (out .exit) ≡ overlay (now (out .entry)) 0 (textOf (Line.Refused why))) ⌝ }
+fn put_refused(out: &mut [u8], place: usize, why: Refusal) -> usize
+    requires { ⌜ place + 24 ≤ length (now out) ⌝ }
+    ensures { λ r. ⌜ (r ≡ place + length (refusedLine (numberOf why))) × (now (out .exit) ≡ overlay (now (out .entry)) place (refusedLine (numberOf why))) ⌝ }
 {
-    let first = put_bytes(out, 0, b"refused ");
+    let first = put_bytes(out, place, b"refused ");
     let n = refusal::number(why);
     put_field(out, first, n as u32, b'\n')
 }
 
 fn put_end(out: &mut [u8], n: u32) -> usize
     requires { ⌜ 24 ≤ length (now out) ⌝ }
-    ensures { λ r. ⌜ (r ≡ length (textOf (Line.End n))) × (now (out .exit) ≡ overlay (now (out .entry)) 0 (textOf (Line.End n))) ⌝ }
+    ensures { λ r. ⌜ (r ≡ length (endLine n)) × (now (out .exit) ≡ overlay (now (out .entry)) 0 (endLine n)) ⌝ }
 {
     let first = put_bytes(out, 0, b"end ");
     put_field(out, first, n, b'\n')
-}
-
-fn put_line(out: &mut [u8], line: Line) -> usize
-    requires { ⌜ 24 ≤ length (now out) ⌝ }
-    ensures { λ r. ⌜ (r ≡ length (textOf line)) × (now (out .exit) ≡ overlay (now (out .entry)) 0 (textOf line)) ⌝ }
-{
-    match line {
-        Line::Frame(address, command, l) => put_frame(out, address, command, l),
-        Line::Refused(why) => put_refused(out, why),
-        Line::End(n) => put_end(out, n),
-    }
-}
-
-// Writes a line, its line feed included, at the start of the lent room.
-pub fn write_line(line: Line, out: &mut [u8]) -> Written
-    ensures { λ r. ⌜ (paperWritten r, now (out .exit)) ≡ emit (textOf line) (now (out .entry)) ⌝ }
-{
-    let mut text = [0u8; 24];
-    let n = put_line(&mut text, line);
-    if out.len() < n {
-        return Written::Refused(Refusal::NoRoom);
-    }
-    put_bytes(out, 0, &text[..n]);
-    Written::Done(n)
-}
-
-// What a listing call gives: the record, the bytes taken, and the bytes of the item's line, 0 for no item; or why the call is refused.
-pub struct Listed {
-    pub receiver: Receiver,
-    pub taken: usize,
-    pub said: Written,
 }
 
 fn byte_at(bytes: &[u8], i: usize) -> u8
@@ -125,70 +92,172 @@ fn byte_at(bytes: &[u8], i: usize) -> u8
     if i < bytes.len() { bytes[i] } else { 0 }
 }
 
-fn put_refusal(why: Refusal, out: &mut [u8]) -> Written
-    requires { ⌜ 24 ≤ length (now out) ⌝ }
-    ensures { λ r. ⌜ (paperWritten r, now (out .exit)) ≡ laidRefusal (paper why) (now (out .entry)) ⌝ }
-{
-    let n = refusal::number(why);
-    if n == 1 {
-        return Written::Refused(why);
-    }
-    if n == 2 {
-        return Written::Refused(why);
-    }
-    Written::Done(put_refused(out, why))
-}
-
 // The line of a frame by its body.
-fn put_body(body: &[u8], out: &mut [u8]) -> Written
-    requires { ⌜ 24 ≤ length (now out) ⌝ }
-    ensures { λ r. ⌜ (paperWritten r, now (out .exit)) ≡ laidLine (lineOf (served (now (body .entry)))) (now (out .entry)) ⌝ }
+fn put_body(body: &[u8], out: &mut [u8], place: usize) -> usize
+    requires { ⌜ place + 24 ≤ length (now out) ⌝ }
+    ensures { λ r. ⌜ (r ≡ place + length (lineOf (served (now (body .entry))))) × (now (out .exit) ≡ overlay (now (out .entry)) place (lineOf (served (now (body .entry))))) ⌝ }
 {
-    let n = put_frame(out, byte_at(body, 0), byte_at(body, 1), byte_at(body, 2));
-    Written::Done(n)
+    put_frame(
+        out,
+        place,
+        byte_at(body, 0),
+        byte_at(body, 1),
+        byte_at(body, 2),
+    )
 }
 
-fn put_part(frame: &[u8], n: usize, out: &mut [u8]) -> Written
-    requires { ⌜ 24 ≤ length (now out) ⌝ }
-    ensures { λ r. ⌜ (paperWritten r, now (out .exit)) ≡ laidLine (lineOf (served (take n (now (frame .entry))))) (now (out .entry)) ⌝ }
+fn put_part(frame: &[u8], n: usize, out: &mut [u8], place: usize) -> usize
+    requires { ⌜ place + 24 ≤ length (now out) ⌝ }
+    ensures { λ r. ⌜ (r ≡ place + length (lineOf (served (take n (now (frame .entry)))))) × (now (out .exit) ≡ overlay (now (out .entry)) place (lineOf (served (take n (now (frame .entry)))))) ⌝ }
 {
     if n < frame.len() {
-        return put_body(&frame[..n], out);
+        return put_body(&frame[..n], out, place);
     }
-    put_body(frame, out)
+    put_body(frame, out, place)
 }
 
-fn put_answer(answer: Answer, frame: &[u8], out: &mut [u8]) -> Written
-    requires { ⌜ 24 ≤ length (now out) ⌝ }
-    ensures { λ r. ⌜ (paperWritten r, now (out .exit)) ≡ laid (paperAnswer answer) (now (frame .entry)) (now (out .entry)) ⌝ }
+// The line of what a feeding call said, from a place on; answers the place after it.
+fn put_answer(answer: Answer, frame: &[u8], out: &mut [u8], place: usize) -> usize
+    requires { ⌜ place + 24 ≤ length (now out) ⌝ }
+    ensures { λ r. ⌜ (r ≡ place + length (saidLine (paperAnswer answer) (now (frame .entry)))) × (now (out .exit) ≡ overlay (now (out .entry)) place (saidLine (paperAnswer answer) (now (frame .entry)))) ⌝ }
 {
     match answer {
-        Answer::Nothing => Written::Done(0),
-        Answer::Frame(n) => put_part(frame, n, out),
-        Answer::Refused(why) => put_refusal(why, out),
+        Answer::Nothing => place,
+        Answer::Frame(n) => put_part(frame, n, out, place),
+        Answer::Refused(why) => put_refused(out, place, why),
     }
 }
 
-// Hands a piece to the receiver, and writes the line of the item that it completes at the start of the lent room. Under 24 bytes of
-// room nothing is taken.
-pub fn list(r: Receiver, store: &mut [u8], piece: &[u8], frame: &mut [u8], out: &mut [u8]) -> Listed
-    ensures { λ l. ⌜ paperListed l (now (store .exit)) (now (frame .exit)) (now (out .exit)) ≡ listOf (held r (now (store .entry))) (now (piece .entry)) (now (frame .entry)) (now (out .entry)) ⌝ }
+// Whether a record is within its ranges: a silence mark would be refused with 2 where it is not. No mark is placed.
+fn in_range(r: Receiver, store: &[u8]) -> bool
+    ensures { λ b. ⌜ b ≡ inRange (held r (now (store .entry))) ⌝ }
 {
-    if out.len() < 24 {
-        return Listed {
-            receiver: r,
+    let quiet = receiver::silence(r, store);
+    let answer = quiet.answer;
+    match answer {
+        Answer::Nothing => true,
+        Answer::Frame(_) => true,
+        Answer::Refused(why) => refusal::number(why) != 2,
+    }
+}
+
+fn room_from(size: usize, place: usize) -> usize
+    ensures { λ r. ⌜ r ≡ size - place ⌝ }
+{
+    if size < place { 0 } else { size - place }
+}
+
+struct Listed {
+    receiver: Receiver,
+    taken: usize,
+    filled: usize,
+}
+
+// Hands a piece to the receiver, again and again, and lays the lines of the items one after the other from a place on: until the piece
+// is used up, or under 24 bytes of room are left.
+fn list(from: Receiver, store: &mut [u8], piece: &[u8], out: &mut [u8], place: usize) -> Listed
+    requires { ⌜ (inRange (held from (now store)) ≡ true) × (place ≤ length (now out)) ⌝ }
+    ensures { λ l. ⌜ paperListed l (now (store .exit)) (now (out .exit)) ≡ listOf (held from (now (store .entry))) (now (piece .entry)) (now (out .entry)) place ⌝ }
+{
+    let mut frame = [0u8; 260];
+    let mut r = from;
+    let mut taken: usize = 0;
+    let mut filled = place;
+    while taken < piece.len() {
+        if out.len() - filled < 24 {
+            break;
+        }
+        let fed = receiver::feed(r, store, &piece[taken..], &mut frame);
+        let next = fed.receiver;
+        let more = fed.taken;
+        let answer = fed.answer;
+        r = next;
+        taken += more;
+        filled = put_answer(answer, &frame, out, filled);
+    }
+    Listed {
+        receiver: r,
+        taken,
+        filled,
+    }
+}
+
+// How far a listing is: the receiver, and how many bytes may still be read.
+pub struct Listing {
+    pub receiver: Receiver,
+    pub left: u32,
+}
+
+// A listing at its start.
+pub fn begin(fresh: Receiver) -> Listing
+    ensures { λ l. ⌜ l ≡ record { receiver = fresh; left = limit } ⌝ }
+{
+    Listing {
+        receiver: fresh,
+        left: LIMIT,
+    }
+}
+
+// How many bytes may be read into a room of a size.
+pub fn wanted(left: u32, size: usize) -> usize
+    ensures { λ r. ⌜ r ≡ min left size ⌝ }
+{
+    let most = left as usize;
+    if most < size { most } else { size }
+}
+
+// What a call of `fill` gives: how far the listing is, the bytes taken, and the place in the room after the text; or why it is refused.
+pub struct Filled {
+    pub listing: Listing,
+    pub taken: usize,
+    pub said: Written,
+}
+
+// Takes bytes of a piece, and lays the lines of their items in the lent room from a place on: until the piece is used up, no more may be
+// read, or under 24 bytes of room are left. With under 24 bytes from the start it is refused with 1.
+pub fn fill(l: Listing, store: &mut [u8], piece: &[u8], out: &mut [u8], place: usize) -> Filled
+    ensures { λ f. ⌜ paperFilled f (now (store .exit)) (now (out .exit)) ≡ fillOf (paperListing l (now (store .entry))) (now (piece .entry)) (now (out .entry)) place ⌝ }
+{
+    let receiver = l.receiver;
+    let left = l.left;
+    if !in_range(receiver, store) {
+        return Filled {
+            listing: l,
+            taken: 0,
+            said: Written::Refused(Refusal::BadRecord),
+        };
+    }
+    if room_from(out.len(), place) < 24 {
+        return Filled {
+            listing: l,
             taken: 0,
             said: Written::Refused(Refusal::NoRoom),
         };
     }
-    let fed = receiver::feed(r, store, piece, frame);
-    let next = fed.receiver;
-    let taken = fed.taken;
-    let answer = fed.answer;
-    let said = put_answer(answer, frame, out);
-    Listed {
-        receiver: next,
-        taken: taken,
-        said: said,
+    let n = wanted(left, piece.len());
+    let listed = list(receiver, store, &piece[..n], out, place);
+    let next = listed.receiver;
+    let taken = listed.taken;
+    let filled = listed.filled;
+    Filled {
+        listing: Listing {
+            receiver: next,
+            left: left - taken as u32,
+        },
+        taken,
+        said: Written::Done(filled),
     }
+}
+
+// Lays the last line, with the bytes read, at the start of the lent room.
+pub fn end(l: Listing, out: &mut [u8]) -> Written
+    ensures { λ r. ⌜ (paperWritten r, now (out .exit)) ≡ emit (endLine (limit - l .left)) (now (out .entry)) ⌝ }
+{
+    let mut text = [0u8; 24];
+    let n = put_end(&mut text, LIMIT - l.left);
+    if out.len() < n {
+        return Written::Refused(Refusal::NoRoom);
+    }
+    put_bytes(out, 0, &text[..n]);
+    Written::Done(n)
 }

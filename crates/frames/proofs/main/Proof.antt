@@ -1,48 +1,93 @@
--- `frames::main` meets its contract. The invariant: the lent arrays keep their lengths, and what is left is within the limit.
--- The measure is what is left. Assumes nothing.
+-- `frames::main` meets its contract. The invariant: the lent arrays keep their lengths, and the text ends within its room. The measure is
+-- what may still be read. Assumes nothing.
 use borrow.Author.Needs.{needs}
-use Prim.Native.Nat.{ℕ, _≤_}
+use Prim.Native.Nat.{ℕ, _-_, _≤_, _<_}
 use native.Mathlib.Omega.{arith}
-use mathlib.Core.Path.{_≡_, refl, sym, _∙_}
+use mathlib.Core.Path.{_≡_, refl, sym, ap, _∙_}
+use mathlib.Core.Bool.{true}
 use mathlib.Core.List.{List, _++_}
 use lib.ListN.{length, take, drop, length-append, length-drop}
 use lib.Seq.{length-take-le}
+use Rattle.refusal.specs.Room.{emit}
+use Rattle.refusal.proofs.Room.{served-within}
+use Rattle.shdlc.specs.Paper.{paperWritten}
+use Rattle.shdlc.specs.declared.Written.{Written}
+use Rattle.shdlc.specs.declared.Written.the-variants.{Done}
+use Rattle.receiver.proofs.Cases.{not-false}
+use Rattle.lines.specs.Listing.{Progress}
 use Rattle.frames.proofs.main.Statement.{statement}
 use Rattle.frames.proofs.main.Tie as tie
 
 abbrev Inv-loop : tie.InvT-loop
-Inv-loop store₀ frame₀ piece₀ r₀ left₀ store frame piece r left =
-    (length store ≡ 260) × (length frame ≡ 260) × (length piece ≡ 1024) × (left ≤ 4294967295)
+Inv-loop store₀ piece₀ out₀ l₀ filled₀ store piece out l filled = (length store ≡ 260) × (length piece ≡ 512) × (length out ≡ 768) × (filled ≤ 768)
 
 abbrev μ-loop : tie.MeasureT-loop
-μ-loop store₀ frame₀ piece₀ r₀ left₀ store frame piece r left = left
+μ-loop store₀ piece₀ out₀ l₀ filled₀ store piece out l filled = l .left
 
 -- a piece is asked for within its array, and what came is within that
-wanted : (c : tie.After-piece-size Inv-loop μ-loop) → c .piece-size .result ≤ length (c .before .before .loop .piece)
-wanted c = omega arith
+asked-in : (c : tie.After-wanted Inv-loop μ-loop) → c .wanted .result ≤ length (c .before .loop .piece)
+asked-in c = omega (arith, c .wanted .ensures, c .before .loop .inv .1)
 
-asked : (c : tie.After-piece-size Inv-loop μ-loop)
-    → length (take (c .piece-size .result) (c .before .before .loop .piece)) ≡ c .piece-size .result
-asked c = length-take-le (c .piece-size .result) (c .before .before .loop .piece) (wanted c)
+asked : (c : tie.After-wanted Inv-loop μ-loop) → length (take (c .wanted .result) (c .before .loop .piece)) ≡ c .wanted .result
+asked c = length-take-le (c .wanted .result) (c .before .loop .piece) (asked-in c)
+
+came : (c : tie.After-read-some Inv-loop μ-loop) → c .read-some .result ≤ c .before .before .wanted .result
+came c = omega (arith, asked (c .before .before), c .read-some .ensures)
 
 abbrev piece : tie.After-read-some Inv-loop μ-loop → List ℕ
-piece c = c .read-some .last .0 ++ drop (c .before .before .piece-size .result) (c .before .before .before .before .loop .piece)
+piece c = c .read-some .last .0 ++ drop (c .before .before .wanted .result) (c .before .before .before .loop .piece)
 
-came : (c : tie.After-read-some Inv-loop μ-loop) → c .read-some .result ≤ c .before .before .piece-size .result
-came c = omega (arith, asked (c .before .before))
-
-whole : (c : tie.After-read-some Inv-loop μ-loop) → length (piece c) ≡ 1024
+whole : (c : tie.After-read-some Inv-loop μ-loop) → length (piece c) ≡ 512
 whole c =
-    let w = wanted (c .before .before) in
-    let k : length (c .read-some .last .0) ≡ c .before .before .piece-size .result = c .read-some .kept .0 ∙ asked (c .before .before) in
+    let w = asked-in (c .before .before) in
+    let k : length (c .read-some .last .0) ≡ c .before .before .wanted .result = c .read-some .kept .0 ∙ asked (c .before .before) in
     omega (
       arith,
-      length-append (c .read-some .last .0) (drop (c .before .before .piece-size .result) (c .before .before .before .before .loop .piece)),
-      length-drop (c .before .before .piece-size .result) (c .before .before .before .before .loop .piece),
+      c .before .before .before .loop .inv .1,
+      length-append (c .read-some .last .0) (drop (c .before .before .wanted .result) (c .before .before .before .loop .piece)),
+      length-drop (c .before .before .wanted .result) (c .before .before .before .loop .piece),
     )
 
 within : (c : tie.After-read-some Inv-loop μ-loop) → c .read-some .result ≤ length (piece c)
-within c = omega (arith, came c, whole c)
+within c = omega (arith, came c, whole c, c .before .before .wanted .ensures)
+
+-- a piece that was listed whole
+module _ (c : tie.Else2 Inv-loop μ-loop) where
+  abbrev listed : tie.After-list-piece Inv-loop μ-loop
+  listed = c .before .before .before .before
+
+  abbrev read : tie.After-read-some Inv-loop μ-loop
+  read = listed .before .before .before .before .before .before
+
+  abbrev at : tie.At-loop Inv-loop μ-loop
+  at = read .before .before .before
+
+  fewer : listed .list-piece .result .listing .left < at .loop .l .left
+  fewer =
+      let ok : listed .list-piece .result .ok ≡ true = not-false (listed .list-piece .result .ok) (c .if2 .left) in
+      let left : listed .list-piece .result .listing .left ≡ at .loop .l .left - length (take (read .read-some .result) (piece read)) =
+      ap (λ (p : Progress). p .left) (listed .list-piece .ensures .1 ok) in
+      omega (
+        arith,
+        length-take-le (read .read-some .result) (piece read) (within read),
+        came read,
+        read .before .before .wanted .ensures,
+        listed .before .before .before .before .if1 .left,
+      )
+
+-- the last line is within the room
+last-in : (w : Written) (text room after : List ℕ) (n : ℕ) → w ≡ Done n → (paperWritten w, after) ≡ emit text room → length after ≡ length room
+    → n ≤ length after
+last-in w text room after n e f kept =
+    let h = served-within text room after n (ap (λ (x : Written). (paperWritten x, after)) (sym e) ∙ f) in omega arith
+
+ends : (c : tie.After-n Inv-loop μ-loop) → c .n .given .0 .0 ≤ length (c .before .before .before .end .last .1 .0)
+ends c =
+    let w = c .before .before .before .end in
+    last-in (w .result) _ _ (w .last .1 .0) (c .n .given .0 .0) (c .n .given .1) (w .ensures) (w .kept .1 .0)
+
+filled-in : (c : tie.Then1 Inv-loop μ-loop) → c .before .before .before .before .before .loop .filled ≤ length (c .before .before .before .before .before .loop .out)
+filled-in c = let l = c .before .before .before .before .before .loop in omega (arith, l .inv .2, l .inv .3)
 
 pub main-spec : {M : Type 1} → statement M
 main-spec =
@@ -55,24 +100,50 @@ main-spec =
     (λ c. search needs)
     (λ c. search needs)
     (λ c. search needs)
-    (λ c. (c .before .before .before .before .fresh .kept .1 .0, refl, refl, omega arith))
     (λ c κs. search needs)
-    wanted
+    (λ c. (c .before .before .before .before .before .fresh .kept .1 .0, refl, refl, omega arith))
+    (λ c κs. search needs)
+    asked-in
     (λ c. sym (asked (c .before)))
     (λ c κs. search needs)
     (λ c. search needs)
     (λ c. within (c .before .before .before))
     (λ c. sym (length-take-le _ _ (within (c .before .before .before .before))))
     (λ c. search needs)
-    (λ c κs. omega arith)
-    (λ c. omega (arith, came (c .before .before .before .before .before .before .before .before)))
-    (λ c. omega (arith, came (c .before .before .before .before .before .before .before .before)))
-    (λ c. omega (arith, came (c .before .before .before .before .before .before .before .before)))
-    (λ c.
-    let f = c .before .before in
-    let r = f .before .before .before .before .before .before in
-    let l = r .before .before .before .before .loop in
-    (f .print-items .kept .1 .0 ∙ l .inv .0, f .print-items .kept .1 .1 .1 .0 ∙ l .inv .1, whole r, omega (arith, came r)))
+    (λ c κs.
+    let r = c .before .before .before .before .before in
+    let l = r .before .before .before .loop in (
+      omega (arith, length-take-le (r .read-some .result) (piece r) (within r), came r, r .before .before .wanted .ensures),
+      omega (arith, l .inv .2),
+      omega (arith, l .inv .2, l .inv .3),
+    ))
+    (λ c. search needs)
     (λ c. search needs)
     (λ c κs. search needs)
+    (λ c κs.
+    let l = c .before .before .before .before .before .before in
+    omega (arith, l .list-piece .ensures .0, l .list-piece .kept .1 .1 .1 .0))
+    (λ c. search needs)
+    (λ c. fewer (c .before .before .before .before .before))
+    (λ c.
+    let e = c .before .before .before .before .before in
+    let l = at e .loop in
+    let f = listed e .list-piece in (
+      f .kept .1 .0 ∙ l .inv .0,
+      whole (read e),
+      f .kept .1 .1 .1 .0 ∙ l .inv .2,
+      omega (arith, c .before .before .make-room .ensures .0, f .kept .1 .1 .1 .0, l .inv .2),
+    ))
+    filled-in
+    (λ c. sym (length-take-le _ _ (filled-in (c .before))))
+    (λ c κs. search needs)
+    (λ c. search needs)
+    (λ c κs. search needs)
+    (λ c. search needs)
+    (λ c. ends (c .before))
+    (λ c. sym (length-take-le _ _ (ends (c .before .before))))
+    (λ c κs. search needs)
+    (λ c. search needs)
+    (λ c. search needs)
+    (λ c. search needs)
     (λ c. search needs))

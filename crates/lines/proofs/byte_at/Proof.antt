@@ -1,7 +1,7 @@
 -- `lines::byte_at` meets its contract. Assumes nothing.
 use borrow.Author.Needs.{needs}
 use mathlib.Core.Path.{sym}
-use Rattle.lines.proofs.Listing.{getD-past}
+use Rattle.lines.proofs.Lines.{getD-past}
 use Rattle.lines.proofs.byte_at.Statement.{statement}
 use Rattle.lines.proofs.byte_at.Tie as tie
 

@@ -1,6 +1,6 @@
 -- `lines::put_answer` meets its contract: each arm by the answer that it is told. Assumes nothing.
 use borrow.Author.Needs.{needs}
-use Rattle.lines.proofs.Listing.{told-laid, told-nothing}
+use Rattle.lines.proofs.Lines.{said-nothing, said-frame, said-refused}
 use Rattle.lines.proofs.put_answer.Statement.{statement}
 use Rattle.lines.proofs.put_answer.Tie as tie
 
@@ -13,12 +13,12 @@ put-answer-spec =
     (λ c κs. search needs)
     (λ c. search needs)
     (λ c κs. search needs)
-    (λ c. told-nothing _ _ _ (c .enum-told .given .1))
+    (λ c. said-nothing _ _ _ _ (c .enum-told .given .1))
     (λ c. search needs)
     (λ c.
     let p = c .before .before in
-    told-laid _ _ _ (p .before .before .before .answer .given .1) (p .put-part .ensures))
+    said-frame _ _ _ _ (p .before .before .before .answer .given .1) (p .put-part .ensures))
     (λ c. search needs)
     (λ c.
     let p = c .before .before in
-    told-laid _ _ _ (p .before .before .before .answer2 .given .1) (p .put-refusal .ensures)))
+    said-refused _ _ _ _ (p .before .before .before .answer2 .given .1) (p .put-refused .ensures)))

@@ -2,7 +2,7 @@
 use borrow.Author.Needs.{needs}
 use native.Mathlib.Omega.{arith}
 use Rattle.refusal.proofs.Room.{write-then}
-use Rattle.lines.specs.Text.{endWord, field, textOf}
+use Rattle.lines.specs.Text.{endWord, field, endLine}
 use Rattle.lines.proofs.Decimal.{field-u32}
 use Rattle.lines.proofs.put_end.Statement.{statement}
 use Rattle.lines.proofs.put_end.Tie as tie
@@ -13,7 +13,7 @@ put-field-requires c κs =
     omega (arith, field-u32 (s .args .n) 10 (omega arith))
 
 returns : tie.Need-returns
-unfolding textOf
+unfolding endLine
 returns c =
     let p = c .before .before .before .before .before .before in
     let s = p .before .before .before .before in

@@ -7,7 +7,7 @@ use mathlib.Core.List.{List}
 use Prim.Native.Nat.{ℕ}
 use lib.ListN.{length}
 use lib.Seq.{length-take-le}
-use Rattle.lines.proofs.Listing.{whole-laid}
+use Rattle.lines.proofs.Lines.{whole-laid}
 use Rattle.lines.proofs.put_part.Statement.{statement}
 use Rattle.lines.proofs.put_part.Tie as tie
 
@@ -27,4 +27,4 @@ put-part-spec =
     (λ c.
     let p = c .before .before in
     let e = p .before .before in
-    whole-laid _ _ _ (e .if1 .left) (p .put-body2 .ensures)))
+    whole-laid _ _ _ _ (e .if1 .left) (p .put-body2 .ensures)))

@@ -1,0 +1,112 @@
+-- `frames::list_piece` meets its contract. The invariant: what is left of the piece takes the listing to where the whole does. Assumes nothing.
+use borrow.Author.Needs.{needs}
+use Prim.Native.Nat.{ℕ, _+_, _-_, _≤_, _<_}
+use native.Mathlib.Omega.{arith}
+use mathlib.Core.Path.{_≡_, refl, sym, ap, subst, _∙_}
+use mathlib.Core.Bool.{true, false≢true}
+use mathlib.Core.List.{List, map}
+use lib.ListN.{length, take, drop, length-drop}
+use Rattle.refusal.proofs.Rest.{rest-end}
+use Rattle.shdlc.specs.Stream.{byte}
+use Rattle.receiver.specs.Record.{Record, held, recordFrom}
+use Rattle.lines.specs.declared.Listing.{Listing}
+use Rattle.lines.specs.Listing.{Progress, paperListing, fillOf}
+use Rattle.lines.proofs.Loop.{rest-slice}
+use Rattle.lines.proofs.Filling.{Went, went, went-on}
+use Rattle.frames.proofs.list_piece.Statement.{statement}
+use Rattle.frames.proofs.list_piece.Tie as tie
+
+abbrev Inv-loop : tie.InvT-loop
+Inv-loop store₀ piece out₀ place l₀ at₀ filled₀ store out l at filled =
+    (at ≤ length piece) × (filled ≤ length out) × (length store ≡ length store₀) × (length out ≡ length out₀)
+    × (l .left + at ≡ l₀ .left)
+    × (recordFrom (held (l .receiver) store) (map byte (drop at piece)) ≡ recordFrom (held (l₀ .receiver) store₀) (map byte piece))
+
+abbrev μ-loop : tie.MeasureT-loop
+μ-loop store₀ piece out₀ place l₀ at₀ filled₀ store out l at filled = length piece - at
+
+-- the call of a turn
+module _ (c : tie.After-said Inv-loop μ-loop) where
+  abbrev filled : tie.After-fill Inv-loop μ-loop
+  filled = c .before .before .before .before .before .before .before
+
+  abbrev at : tie.At-loop Inv-loop μ-loop
+  at = filled .before .before .before .before .before .before .before .before .before
+
+  abbrev first : tie.Start Inv-loop μ-loop
+  first = at .before .before .before .before
+
+  abbrev place : ℕ
+  place = filled .before .before .before .before .before .before .make-room .result .place
+
+  turned : Went (paperListing (at .loop .l) (at .loop .store)) (drop (at .loop .at) (first .args .piece .now)) (at .loop .out) (filled .fill .result)
+      (filled .fill .last .1 .0) (filled .fill .last .1 .1 .1 .0) (c .said .given .0 .0)
+  turned =
+      went (paperListing (at .loop .l) (at .loop .store)) (drop (at .loop .at) (first .args .piece .now)) (at .loop .out) place (filled .fill .result)
+      (filled .fill .ensures ∙ ap (λ (l : List ℕ). fillOf (paperListing (at .loop .l) (at .loop .store)) l (at .loop .out) place) (rest-slice (first .args .piece .now) (at .loop .at))) (c .said .given .1)
+
+  rest : length (drop (at .loop .at) (first .args .piece .now)) ≡ length (first .args .piece .now) - at .loop .at
+  rest = length-drop (at .loop .at) (first .args .piece .now)
+
+inside : (c : tie.After-said Inv-loop μ-loop)
+    → c .before .before .before .before .before .before .before .before .before .before .before .before .before .before .before .before .loop .at + c .before .before .before .before .before .before .before .fill .result .taken
+    ≤ length (c .before .before .before .before .before .before .before .before .before .before .before .before .before .before .before .before .before .before .before .before .args .piece .now)
+inside c = omega (arith, turned c .within, rest c, at c .loop .inv .0)
+
+-- nothing is left
+done : (l from : Listing) (store store₀ piece : List ℕ) (i : ℕ) → i ≤ length piece → length piece ≤ i → l .left + i ≡ from .left
+    → recordFrom (held (l .receiver) store) (map byte (drop i piece)) ≡ recordFrom (held (from .receiver) store₀) (map byte piece)
+    → _≡_ {A = Progress} (paperListing l store)
+    (record { holds = recordFrom (held (from .receiver) store₀) (map byte piece); left = from .left - length piece })
+unfolding recordFrom
+done l from store store₀ piece i h g left e =
+    let same : held (l .receiver) store ≡ recordFrom (held (from .receiver) store₀) (map byte piece) =
+    sym (ap (λ (r : List ℕ). recordFrom (held (l .receiver) store) (map byte r)) (rest-end piece i g)) ∙ e in
+    let less : l .left ≡ from .left - length piece = omega arith in
+    λ k. record { holds = same k; left = less k }
+
+pub list-piece-spec : {M : Type 1} → statement M
+list-piece-spec =
+    tie.close
+    (tie.spec
+    Inv-loop
+    μ-loop
+    (λ c. let s = c .before .before .before in (omega arith, s .pre .2, refl, refl, omega arith, refl))
+    (λ c κs. search needs)
+    (λ c. search needs)
+    (λ c. search needs)
+    (λ c. (search needs, λ h. absurd (false≢true h)))
+    (λ c. search needs)
+    (λ c. search needs)
+    (λ c. search needs)
+    (λ c κs. search needs)
+    (λ c. search needs)
+    (λ c. search needs)
+    (λ c. search needs)
+    (λ c. search needs)
+    (λ c. (omega arith, λ h. absurd (false≢true h)))
+    (λ c. omega (arith, inside (c .before), first (c .before) .good .1 .1 .0 .0))
+    (λ c.
+    let t = turned (c .before) in
+    let l = at (c .before) .loop in
+    let size = rest (c .before) in
+    let e = filled (c .before) .before .before .before .before .before .before .before .before in
+    omega (arith, t .within, t .some (omega arith) (omega (arith, first (c .before) .pre .0))))
+    (λ c.
+    let s = c .before in
+    let t = turned s in
+    let l = at s .loop in (
+      omega (arith, t .within, rest s),
+      omega (arith, t .place (filled s .fill .kept .1 .1 .1 .0), filled s .fill .kept .1 .1 .1 .0),
+      filled s .fill .kept .1 .0 ∙ l .inv .2,
+      filled s .fill .kept .1 .1 .1 .0 ∙ l .inv .3,
+      omega (arith, t .left, t .enough),
+      went-on (held (l .l .receiver) (l .store)) (held (filled s .fill .result .listing .receiver) (filled s .fill .last .1 .0)) (first s .args .piece .now)
+          (l .at) (filled s .fill .result .taken) (t .holds) ∙ l .inv .5,
+    ))
+    (λ c. search needs)
+    (λ c. search needs)
+    (λ c.
+    let l = c .before .loop in
+    let a = c .before .before .before .before .before .args in
+    (omega (arith, l .inv .3), λ h. done (l .l) (a .from) (l .store) (a .store .now) (a .piece .now) (l .at) (l .inv .0) (c .loop-test .left) (l .inv .4) (l .inv .5))))

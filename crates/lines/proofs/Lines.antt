@@ -1,0 +1,120 @@
+-- The lines of answers, each `return` of the functions that lay them. Assumes nothing.
+use Prim.Native.Nat.{ℕ, zero, suc, _+_, _-_, _≤_, _<_, min}
+use native.Mathlib.Omega.{arith}
+use mathlib.Core.Path.{_≡_, refl, sym, ap, subst, _∙_}
+use mathlib.Core.Bool.{Bool, true, false, cond, not, false≢true}
+use mathlib.Core.List.{List, [], _∷_, _++_}
+use borrow.Author.Tests.{eq-eqb, ne-eqb}
+use lib.Dec.{eqb}
+use lib.ListN.{length, getD, take}
+use Rattle.refusal.specs.Refusals.{Numbered, number, _carrying_, numberOf, numberIn, paper, Answered, served, refused}
+use Rattle.refusal.specs.declared.Refusal.{Refusal}
+use Rattle.refusal.specs.declared.Refusal.the-variants.{NoRoom, BadRecord, BadEscape, BareControl, BodyTooLong, BodyTooShort, WrongLength, WrongChecksum, CutBySilence, AddressBroadcast, UnknownCommand, OutOfRange, BadFloat, ForeignReply, DeviceError, BadWordCount, WrongCrc, BadScale}
+use Rattle.refusal.specs.Room.{overlay}
+use Rattle.refusal.proofs.Room.{overlay-nothing}
+use Rattle.receiver.specs.declared.Answer.{Answer}
+use Rattle.receiver.specs.declared.Answer.the-variants as answer
+use Rattle.receiver.specs.declared.Quiet.{Quiet}
+use Rattle.receiver.specs.Record.{Record, inRange, pending}
+use Rattle.receiver.specs.Calls.{Said, nothing, gave, Outcome, paperAnswer, paperQuiet, silenceOf}
+use Rattle.receiver.proofs.Cases.{silence-range, silence-cut, silence-idle}
+use Rattle.lines.specs.Text.{frameLine, refusedLine}
+use Rattle.lines.specs.Program.{lineOf}
+use Rattle.lines.specs.Private.{saidLine}
+
+-- a text laid from a place on, and the place after it
+abbrev pub Laid : ℕ → List ℕ → List ℕ → ℕ → List ℕ → Type 0
+Laid r after room place text = (r ≡ place + length text) × (after ≡ overlay room place text)
+
+-- past a list's end there is 0
+pub getD-past : (l : List ℕ) (i : ℕ) → length l ≤ i → getD l i 0 ≡ 0
+getD-past [] i h = refl
+getD-past (x ∷ l) zero h = absurd (omega arith)
+getD-past (x ∷ l) (suc i) h = getD-past l i (omega arith)
+
+-- the line of a frame, by three bytes of its body
+pub body-laid : (body room : List ℕ) (place : ℕ) {a b c n : ℕ} {after : List ℕ} → a ≡ getD body 0 0 → b ≡ getD body 1 0 → c ≡ getD body 2 0
+    → Laid n after room place (frameLine a b c) → Laid n after room place (lineOf (served body))
+unfolding lineOf
+body-laid body room place e f g h = rw (← e, ← f, ← g) h
+
+take-whole : (n : ℕ) (l : List ℕ) → length l ≤ n → take n l ≡ l
+take-whole zero [] h = refl
+take-whole zero (x ∷ l) h = absurd (omega arith)
+take-whole (suc n) [] h = refl
+take-whole (suc n) (x ∷ l) h = ap (λ (m : List ℕ). x ∷ m) (take-whole n l (omega arith))
+
+pub whole-laid : (n : ℕ) (frame room : List ℕ) (place : ℕ) {r : ℕ} {after : List ℕ} → length frame ≤ n → Laid r after room place (lineOf (served frame))
+    → Laid r after room place (lineOf (served (take n frame)))
+whole-laid n frame room place {r} {after} h e =
+    subst (λ (body : List ℕ). Laid r after room place (lineOf (served body))) (sym (take-whole n frame h)) e
+
+-- the three arms of `put_answer`
+module _ (given : Answer) (frame room : List ℕ) (place : ℕ) where
+  pub said-nothing : given ≡ answer.Nothing → Laid place room room place (saidLine (paperAnswer given) frame)
+  said-nothing e =
+      subst (λ (x : Answer). Laid place room room place (saidLine (paperAnswer x) frame)) (sym e) (omega arith, sym (overlay-nothing room place))
+
+  pub said-frame : {n r : ℕ} {after : List ℕ} → given ≡ answer.Frame n → Laid r after room place (lineOf (served (take n frame)))
+      → Laid r after room place (saidLine (paperAnswer given) frame)
+  said-frame {n} {r} {after} e h = subst (λ (x : Answer). Laid r after room place (saidLine (paperAnswer x) frame)) (sym e) h
+
+  pub said-refused : {why : Refusal} {r : ℕ} {after : List ℕ} → given ≡ answer.Refused why → Laid r after room place (refusedLine (numberOf why))
+      → Laid r after room place (saidLine (paperAnswer given) frame)
+  unfolding lineOf
+  said-refused {why} {r} {after} e h = subst (λ (x : Answer). Laid r after room place (saidLine (paperAnswer x) frame)) (sym e) h
+
+-- whether a call is refused with 2
+abbrev says2 : Said → Bool
+says2 nothing = false
+says2 (gave (served n)) = false
+says2 (gave (refused (number n))) = eqb n 2
+says2 (gave (refused (n carrying v))) = false
+
+by-number : (why : Refusal) → says2 (gave (refused (paper why))) ≡ eqb (numberOf why) 2
+by-number NoRoom = refl
+by-number BadRecord = refl
+by-number BadEscape = refl
+by-number BareControl = refl
+by-number BodyTooLong = refl
+by-number BodyTooShort = refl
+by-number WrongLength = refl
+by-number WrongChecksum = refl
+by-number CutBySilence = refl
+by-number AddressBroadcast = refl
+by-number UnknownCommand = refl
+by-number OutOfRange = refl
+by-number BadFloat = refl
+by-number ForeignReply = refl
+by-number (DeviceError code) = refl
+by-number BadWordCount = refl
+by-number (WrongCrc index) = refl
+by-number BadScale = refl
+
+quiet-2 : (r : Record) → says2 (silenceOf r .result .said) ≡ not (inRange r)
+quiet-2 r = go (inRange r) (pending r) refl refl
+  where
+    go : (t p : Bool) → inRange r ≡ t → pending r ≡ p → says2 (silenceOf r .result .said) ≡ not (inRange r)
+    go true true e f = ap (λ (o : Outcome). says2 (o .result .said)) (silence-cut r e f) ∙ sym (ap not e)
+    go true false e f = ap (λ (o : Outcome). says2 (o .result .said)) (silence-idle r e f) ∙ sym (ap not e)
+    go false p e f = ap (λ (o : Outcome). says2 (o .result .said)) (silence-range r e) ∙ sym (ap not e)
+
+not-not : (a b : Bool) → a ≡ not b → not a ≡ b
+not-not a true e = rw e
+not-not a false e = rw e
+
+-- the three arms of `in_range`
+module _ (q : Quiet) (store : List ℕ) (r : Record) (e : paperQuiet q store ≡ silenceOf r) where
+  quiet-says : {is : Answer} → q .answer ≡ is → not (says2 (paperAnswer is)) ≡ inRange r
+  quiet-says {is} f =
+      not-not (says2 (paperAnswer is)) (inRange r)
+      (sym (ap (λ (x : Answer). says2 (paperAnswer x)) f) ∙ ap (λ (o : Outcome). says2 (o .result .said)) e ∙ quiet-2 r)
+
+  pub quiet-nothing : q .answer ≡ answer.Nothing → true ≡ inRange r
+  quiet-nothing f = quiet-says f
+
+  pub quiet-frame : {n : ℕ} → q .answer ≡ answer.Frame n → true ≡ inRange r
+  quiet-frame f = quiet-says f
+
+  pub quiet-refused : {why : Refusal} {n : ℕ} → q .answer ≡ answer.Refused why → n ≡ numberOf why → not (eqb n 2) ≡ inRange r
+  quiet-refused {why} {n} f is = ap (λ (k : ℕ). not (eqb k 2)) is ∙ sym (ap not (by-number why)) ∙ quiet-says f
