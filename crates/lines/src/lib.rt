@@ -237,14 +237,14 @@ pub fn fill(l: Listing, store: &mut [u8], piece: &[u8], out: &mut [u8], place: u
     let n = wanted(left, piece.len());
     let listed = list(receiver, store, &piece[..n], out, place);
     let next = listed.receiver;
-    let taken = listed.taken;
+    let done = listed.taken;
     let filled = listed.filled;
     Filled {
         listing: Listing {
             receiver: next,
-            left: left - taken as u32,
+            left: left - done as u32,
         },
-        taken,
+        taken: done,
         said: Written::Done(filled),
     }
 }
