@@ -46,12 +46,12 @@ struct Room {
     ok: bool,
 }
 
-// Prints what the room holds where fewer bytes than are asked for are left in it.
-fn make_room(out: &[u8], filled: usize, need: usize) -> Room
+// Prints what the room holds where it may not hold another line.
+fn make_room(out: &[u8], filled: usize) -> Room
     requires { ⌜ filled ≤ length (now out) ⌝ }
-    ensures { λ r. ⌜ (r .place ≤ length (now (out .entry))) × (r .ok ≡ true → need ≤ length (now (out .entry)) → need ≤ length (now (out .entry)) - r .place) ⌝ }
+    ensures { λ r. ⌜ r .place ≤ length (now (out .entry)) ⌝ }
 {
-    if out.len() - filled < need {
+    if out.len() - filled < 24 {
         let ok = print(&out[..filled]);
         return Room { place: 0, ok };
     }
@@ -68,16 +68,16 @@ struct Shown {
     ok: bool,
 }
 
-// Lists all of a piece: its lines are printed, or stand in the room.
-fn list_piece(from: Listing, store: &mut [u8], piece: &[u8], out: &mut [u8], place: usize) -> Shown
-    requires { ⌜ (length (now piece) ≤ from .left) × (24 ≤ length (now out)) × (place ≤ length (now out)) ⌝ }
+// Lists all of a piece: its last lines stand in the room, those before them are printed.
+fn list_piece(from: Listing, store: &mut [u8], piece: &[u8], out: &mut [u8]) -> Shown
+    requires { ⌜ length (now piece) ≤ from .left ⌝ }
     ensures { λ s. ⌜ (s .filled ≤ length (now (out .entry))) × (s .ok ≡ true → paperListing (s .listing) (now (store .exit)) ≡ record { holds = recordFrom (paperListing from (now (store .entry)) .holds) (map byte (now (piece .entry))); left = from .left - length (now (piece .entry)) }) ⌝ }
 {
     let mut l = from;
     let mut at: usize = 0;
-    let mut filled = place;
+    let mut filled: usize = 0;
     while at < piece.len() {
-        let room = make_room(out, filled, 24);
+        let room = make_room(out, filled);
         if !room.ok {
             return Shown {
                 listing: l,
@@ -118,44 +118,34 @@ fn read_some(piece: &mut [u8]) -> usize
     io::count(got, piece)
 }
 
-// How much room is asked for after a read: all of it where fewer bytes came than were asked for, since the next read may wait and no
-// line is to be held back.
-fn needed(came: usize, wanted: usize, size: usize) -> usize {
-    if came < wanted { size } else { 24 }
-}
-
+// Before each read all lines are written: whatever the read then waits for, none is held back.
 fn main() {
     let mut store = [0u8; 260];
-    let mut piece = [0u8; 512];
-    let mut out = [0u8; 768];
+    let mut piece = [0u8; 416];
+    let mut out = [0u8; 880];
     let Made::Fresh(fresh) = receiver::fresh(Kind::Request, &mut store) else {
         return;
     };
     let mut l = lines::begin(fresh);
-    let mut filled: usize = 0;
     loop {
-        let wanted = lines::wanted(l.left, 512);
+        let wanted = lines::wanted(l.left, 416);
         let n = read_some(&mut piece[..wanted]);
         if n == 0 {
             break;
         }
-        let shown = list_piece(l, &mut store, &piece[..n], &mut out, filled);
+        let shown = list_piece(l, &mut store, &piece[..n], &mut out);
         let next = shown.listing;
         let end = shown.filled;
         let ok = shown.ok;
         if !ok {
             return;
         }
-        l = next;
-        let room = make_room(&out, end, needed(n, wanted, 768));
-        if !room.ok {
+        if !print(&out[..end]) {
             return;
         }
-        filled = room.place;
+        l = next;
     }
-    if print(&out[..filled]) {
-        if let Written::Done(n) = lines::end(l, &mut out) {
-            print(&out[..n]);
-        }
+    if let Written::Done(n) = lines::end(l, &mut out) {
+        print(&out[..n]);
     }
 }

@@ -6,8 +6,8 @@ use mathlib.Core.Bool.{Bool, true, false, cond, _&&_}
 use mathlib.Core.List.{List, [], _∷_, _++_, map, append-assoc, append-nil}
 use borrow.Author.Tests.{ltb-true, ltb-false}
 use lib.Dec.{ltb, eqb}
-use lib.ListN.{length, take, drop, length-append, length-take, take-append-drop}
-use lib.Seq.{drop-append-seam, take-append-seam, take-take, length-take-le, take-append-add}
+use lib.ListN.{length, take, drop, replicate, length-append, length-take, length-replicate, take-append-drop}
+use lib.Seq.{drop-append-seam, take-append-seam, take-all, take-take, length-take-le, take-append-add}
 use Rattle.refusal.specs.Room.{overlay}
 use Rattle.shdlc.specs.declared.Kind.{Kind}
 use Rattle.shdlc.specs.Stream.{Event, byte, Item, Place, outside, next, gain, itemsFrom, items}
@@ -18,7 +18,7 @@ use Rattle.receiver.proofs.Simulation.{At, at-next, at-gain, at-range, at-fresh
 use Rattle.lines.specs.Text.{endLine}
 use Rattle.lines.specs.Program.{lineOf, linesOf, limit, textFor, programText}
 use Rattle.lines.specs.Listing.{Progress, start, shown, shownBy, fitting, Fill, filledBy, refusedFill, fillOf, Hand, fill, textIn, textBy, putOut, tookIn, HandsIn, EveryListing}
-use Rattle.lines.proofs.Filling.{fitting-front, fitting-within, fill-room, fill-free}
+use Rattle.lines.proofs.Filling.{fitting-front, fitting-within, fitting-some, fill-room, fill-free}
 
 lines-append : (a b : List Item) → linesOf (a ++ b) ≡ linesOf a ++ linesOf b
 unfolding linesOf
@@ -151,6 +151,47 @@ module _ (kind : Kind) where
       ∙ ap (λ (n : ℕ). take n (b ++ (left ++ rest))) size
       ∙ ap (take (p .left)) (sym whole)
 
+  -- byte for byte, each with 24 bytes of room
+  one : ℕ → Hand
+  one b = record { piece = b ∷ []; out = replicate 24 0; place = 0 }
+
+  one-taken : (p : Progress) (b : ℕ) → inRange (p .holds) ≡ true → 1 ≤ p .left → fill p (one b) .taken ≡ 1
+  unfolding one
+  one-taken p b range h =
+      let room : List ℕ = replicate 24 0 in
+      let size : length room ≡ 24 = length-replicate {A = ℕ} 24 0 in
+      let free : 24 ≤ length room - 0 = omega arith in
+      let piece : List ℕ = take (p .left) (b ∷ []) in
+      let most : length piece ≡ min (p .left) 1 = length-take (p .left) (b ∷ []) in
+      let bytes : List ℕ = fitting (length room - 0) (p .holds) piece in
+      let is : fill p (one b) .taken ≡ length bytes = ap (λ (f : Fill). f .taken) (sym (fill-free p (b ∷ []) room 0 range free)) in
+      omega (arith, is, fitting-within piece (length room - 0) (p .holds), fitting-some piece (length room - 0) (p .holds) free (omega arith))
+
+  none-left : (p : Progress) (input : List ℕ) → p .left ≤ 0 → HandsIn p input []
+  unfolding HandsIn
+  none-left p input h = let none : p .left ≡ 0 = omega arith in ap (λ (n : ℕ). take n input) none
+
+  more : (p : Progress) (b : ℕ) (input : List ℕ) (hands : List Hand) → fill p (one b) .taken ≡ 1 → HandsIn (fill p (one b) .leaves) input hands
+      → HandsIn p (b ∷ input) (one b ∷ hands)
+  unfolding HandsIn one
+  more p b input hands e h =
+      (input, refl, subst (λ (n : ℕ). HandsIn (fill p (one b) .leaves) (drop n (b ∷ []) ++ input) hands) (sym e) h)
+
+  handed-in : (input : List ℕ) (p : Progress) (place : Place) → At kind place (p .holds) → (hands : List Hand) × HandsIn p input hands
+  unfolding HandsIn one
+  handed-in [] p place at = ([], take-all (p .left) [] (omega arith))
+  handed-in (b ∷ input) p place at =
+      let d = does p (one b) (at-range kind place (p .holds) at) in
+      let after : Place = placeFrom place (map byte (taken-by p (one b))) in
+      let at₂ : At kind after (fill p (one b) .leaves .holds) =
+      subst (At kind after) (sym (d .leaves)) (at-record kind (map byte (taken-by p (one b))) place (p .holds) at) in
+      go (ltb 0 (p .left)) refl (handed-in input (fill p (one b) .leaves) after at₂)
+    where
+      go : (t : Bool) → ltb 0 (p .left) ≡ t → (hands : List Hand) × HandsIn (fill p (one b) .leaves) input hands
+          → (hands : List Hand) × HandsIn p (b ∷ input) hands
+      go true e t = (one b ∷ t .0, more p b input (t .0) (one-taken p b (at-range kind place (p .holds) at) (ltb-true 0 (p .left) e)) (t .1))
+      go false e t = ([], none-left p (b ∷ input) (ltb-false 0 (p .left) e))
+
   from-fresh : (hands : List Hand) → putOut (start kind) hands ≡ textFor kind (tookIn (start kind) hands)
   unfolding textFor items
   from-fresh hands =
@@ -164,4 +205,5 @@ every-listing kind =
     record {
       any-calls = from-fresh kind;
       whole-input = λ input hands h. from-fresh kind hands ∙ ap (textFor kind) (all-taken kind hands (start kind) outside input (at-fresh kind) h);
+      some-series = λ input. handed-in kind input (start kind) outside (at-fresh kind);
     }

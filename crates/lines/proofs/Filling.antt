@@ -81,7 +81,7 @@ module _ (p : Progress) (piece out : List ℕ) (place : ℕ) where
         omega (arith, fitting-within (take n piece) (length out - place) (p .holds), length-take n piece)
 
 -- what a caller knows of a call that served
-fitting-some : (piece : List ℕ) (room : ℕ) (r : Record) → 24 ≤ room → 1 ≤ length piece → 1 ≤ length (fitting room r piece)
+pub fitting-some : (piece : List ℕ) (room : ℕ) (r : Record) → 24 ≤ room → 1 ≤ length piece → 1 ≤ length (fitting room r piece)
 unfolding fitting
 fitting-some [] room r h g = omega arith
 fitting-some (b ∷ piece) room r h g = rw (le-ltb room 24 h) (omega arith)

@@ -107,8 +107,11 @@ HandsIn p input [] = take (p .left) input ≡ []
 HandsIn p input (h ∷ hands) =
     (rest : List ℕ) × (input ≡ h .piece ++ rest) × HandsIn (fill p h .leaves) (drop (fill p h .taken) (h .piece) ++ rest) hands
 
--- The claim, for a kind of frame: whatever the pieces and the room lent, the text is that of the bytes taken; and where all of an input
--- is handed in, it is the program's text.
+-- The claim, for a kind of frame.
 pub record EveryListing (kind : Kind) : Type 0 where
+  -- whatever the pieces and the room lent, the text is that of the bytes taken
   pub any-calls : (hands : List Hand) → putOut (start kind) hands ≡ textFor kind (tookIn (start kind) hands)
+  -- where all of an input is handed in, it is the program's text
   pub whole-input : (input : List ℕ) (hands : List Hand) → HandsIn (start kind) input hands → putOut (start kind) hands ≡ programText kind input
+  -- every input can be handed in
+  pub some-series : (input : List ℕ) → (hands : List Hand) × HandsIn (start kind) input hands

@@ -17,13 +17,13 @@ use Rattle.frames.proofs.list_piece.Statement.{statement}
 use Rattle.frames.proofs.list_piece.Tie as tie
 
 abbrev Inv-loop : tie.InvT-loop
-Inv-loop store₀ piece out₀ place l₀ at₀ filled₀ store out l at filled =
+Inv-loop store₀ piece out₀ l₀ at₀ filled₀ store out l at filled =
     (at ≤ length piece) × (filled ≤ length out) × (length store ≡ length store₀) × (length out ≡ length out₀)
     × (l .left + at ≡ l₀ .left)
     × (recordFrom (held (l .receiver) store) (map byte (drop at piece)) ≡ recordFrom (held (l₀ .receiver) store₀) (map byte piece))
 
 abbrev μ-loop : tie.MeasureT-loop
-μ-loop store₀ piece out₀ place l₀ at₀ filled₀ store out l at filled = length piece - at
+μ-loop store₀ piece out₀ l₀ at₀ filled₀ store out l at filled = length piece - at
 
 -- the call of a turn
 module _ (c : tie.After-said Inv-loop μ-loop) where
@@ -71,7 +71,7 @@ list-piece-spec =
     (tie.spec
     Inv-loop
     μ-loop
-    (λ c. let s = c .before .before .before in (omega arith, s .pre .2, refl, refl, omega arith, refl))
+    (λ c. (omega arith, omega arith, refl, refl, omega arith, refl))
     (λ c κs. search needs)
     (λ c. search needs)
     (λ c. search needs)
@@ -91,7 +91,7 @@ list-piece-spec =
     let l = at (c .before) .loop in
     let size = rest (c .before) in
     let e = filled (c .before) .before .before .before .before .before .before .before .before in
-    omega (arith, t .within, t .some (omega arith) (omega (arith, first (c .before) .pre .0))))
+    omega (arith, t .within, t .some (omega arith) (omega (arith, first (c .before) .pre))))
     (λ c.
     let s = c .before in
     let t = turned s in

@@ -1,5 +1,5 @@
--- `frames::main` meets its contract. The invariant: the lent arrays keep their lengths, and the text ends within its room. The measure is
--- what may still be read. Assumes nothing.
+-- `frames::main` meets its contract. The invariant: the lent arrays keep their lengths. The measure is what may still be read. Assumes
+-- nothing.
 use borrow.Author.Needs.{needs}
 use Prim.Native.Nat.{ℕ, _-_, _≤_, _<_}
 use native.Mathlib.Omega.{arith}
@@ -19,10 +19,10 @@ use Rattle.frames.proofs.main.Statement.{statement}
 use Rattle.frames.proofs.main.Tie as tie
 
 abbrev Inv-loop : tie.InvT-loop
-Inv-loop store₀ piece₀ out₀ l₀ filled₀ store piece out l filled = (length store ≡ 260) × (length piece ≡ 512) × (length out ≡ 768) × (filled ≤ 768)
+Inv-loop store₀ piece₀ out₀ l₀ store piece out l = (length store ≡ 260) × (length piece ≡ 416) × (length out ≡ 880)
 
 abbrev μ-loop : tie.MeasureT-loop
-μ-loop store₀ piece₀ out₀ l₀ filled₀ store piece out l filled = l .left
+μ-loop store₀ piece₀ out₀ l₀ store piece out l = l .left
 
 -- a piece is asked for within its array, and what came is within that
 asked-in : (c : tie.After-wanted Inv-loop μ-loop) → c .wanted .result ≤ length (c .before .loop .piece)
@@ -37,7 +37,7 @@ came c = omega (arith, asked (c .before .before), c .read-some .ensures)
 abbrev piece : tie.After-read-some Inv-loop μ-loop → List ℕ
 piece c = c .read-some .last .0 ++ drop (c .before .before .wanted .result) (c .before .before .before .loop .piece)
 
-whole : (c : tie.After-read-some Inv-loop μ-loop) → length (piece c) ≡ 512
+whole : (c : tie.After-read-some Inv-loop μ-loop) → length (piece c) ≡ 416
 whole c =
     let w = asked-in (c .before .before) in
     let k : length (c .read-some .last .0) ≡ c .before .before .wanted .result = c .read-some .kept .0 ∙ asked (c .before .before) in
@@ -86,8 +86,11 @@ ends c =
     let w = c .before .before .before .end in
     last-in (w .result) _ _ (w .last .1 .0) (c .n .given .0 .0) (c .n .given .1) (w .ensures) (w .kept .1 .0)
 
-filled-in : (c : tie.Then1 Inv-loop μ-loop) → c .before .before .before .before .before .loop .filled ≤ length (c .before .before .before .before .before .loop .out)
-filled-in c = let l = c .before .before .before .before .before .loop in omega (arith, l .inv .2, l .inv .3)
+-- the text of a piece is within the room
+shown-in : (c : tie.Else2 Inv-loop μ-loop)
+    → c .before .before .before .before .list-piece .result .filled ≤ length (c .before .before .before .before .list-piece .last .1 .1 .1 .0)
+shown-in c =
+    let f = c .before .before .before .before .list-piece in omega (arith, f .ensures .0, f .kept .1 .1 .1 .0)
 
 pub main-spec : {M : Type 1} → statement M
 main-spec =
@@ -101,7 +104,7 @@ main-spec =
     (λ c. search needs)
     (λ c. search needs)
     (λ c κs. search needs)
-    (λ c. (c .before .before .before .before .before .fresh .kept .1 .0, refl, refl, omega arith))
+    (λ c. (c .before .before .before .before .before .fresh .kept .1 .0, refl, refl))
     (λ c κs. search needs)
     asked-in
     (λ c. sym (asked (c .before)))
@@ -112,38 +115,24 @@ main-spec =
     (λ c. search needs)
     (λ c κs.
     let r = c .before .before .before .before .before in
-    let l = r .before .before .before .loop in (
-      omega (arith, length-take-le (r .read-some .result) (piece r) (within r), came r, r .before .before .wanted .ensures),
-      omega (arith, l .inv .2),
-      omega (arith, l .inv .2, l .inv .3),
-    ))
+    omega (arith, length-take-le (r .read-some .result) (piece r) (within r), came r, r .before .before .wanted .ensures))
     (λ c. search needs)
-    (λ c. search needs)
+    shown-in
+    (λ c. sym (length-take-le _ _ (shown-in (c .before))))
     (λ c κs. search needs)
-    (λ c κs.
-    let l = c .before .before .before .before .before .before in
-    omega (arith, l .list-piece .ensures .0, l .list-piece .kept .1 .1 .1 .0))
     (λ c. search needs)
-    (λ c. fewer (c .before .before .before .before .before))
+    (λ c. fewer (c .before .before .before))
     (λ c.
-    let e = c .before .before .before .before .before in
+    let e = c .before .before .before in
     let l = at e .loop in
-    let f = listed e .list-piece in (
-      f .kept .1 .0 ∙ l .inv .0,
-      whole (read e),
-      f .kept .1 .1 .1 .0 ∙ l .inv .2,
-      omega (arith, c .before .before .make-room .ensures .0, f .kept .1 .1 .1 .0, l .inv .2),
-    ))
-    filled-in
-    (λ c. sym (length-take-le _ _ (filled-in (c .before))))
-    (λ c κs. search needs)
+    let f = listed e .list-piece in
+    (f .kept .1 .0 ∙ l .inv .0, whole (read e), f .kept .1 .1 .1 .0 ∙ l .inv .2))
     (λ c. search needs)
     (λ c κs. search needs)
     (λ c. search needs)
     (λ c. ends (c .before))
     (λ c. sym (length-take-le _ _ (ends (c .before .before))))
     (λ c κs. search needs)
-    (λ c. search needs)
     (λ c. search needs)
     (λ c. search needs)
     (λ c. search needs))
