@@ -1,5 +1,5 @@
 -- Every series of calls puts out the lines of its stream. Assumes nothing.
-use Prim.Native.Nat.{ℕ, zero, suc, _+_, _-_, _≤_, _<_, min}
+use Prim.Native.Nat.{ℕ, _+_, _-_, _≤_, min}
 use native.Mathlib.Omega.{arith}
 use mathlib.Core.Path.{_≡_, refl, sym, ap, subst, _∙_}
 use mathlib.Core.Bool.{Bool, true, false, cond, _&&_}
@@ -12,12 +12,11 @@ use Rattle.refusal.specs.Room.{overlay}
 use Rattle.shdlc.specs.declared.Kind.{Kind}
 use Rattle.shdlc.specs.Stream.{Event, byte, Item, Place, outside, next, gain, itemsFrom, items}
 use Rattle.shdlc.proofs.Stream.{placeFrom, items-append, map-append}
-use Rattle.receiver.specs.Record.{Record, inRange, fresh, pending, itemOf, nextByte, nextRecord, recordFrom}
-use Rattle.receiver.specs.Calls.{closes}
+use Rattle.receiver.specs.Record.{Record, inRange, pending, itemOf, nextByte, nextRecord, recordFrom}
 use Rattle.receiver.proofs.Simulation.{At, at-next, at-gain, at-range, at-fresh}
 use Rattle.lines.specs.Text.{endLine}
 use Rattle.lines.specs.Program.{lineOf, linesOf, limit, textFor, programText}
-use Rattle.lines.specs.Listing.{Progress, start, shown, shownBy, fitting, Fill, filledBy, refusedFill, fillOf, Hand, fill, textIn, textBy, putOut, tookIn, HandsIn, EveryListing}
+use Rattle.lines.specs.Listing.{Progress, start, shownBy, fitting, Fill, filledBy, refusedFill, Hand, fill, textIn, textBy, putOut, tookIn, HandsIn, EveryListing}
 use Rattle.lines.proofs.Filling.{fitting-front, fitting-within, fitting-some, fill-room, fill-free}
 
 lines-append : (a b : List Item) → linesOf (a ++ b) ≡ linesOf a ++ linesOf b

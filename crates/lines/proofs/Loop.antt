@@ -1,22 +1,22 @@
 -- The loop over a piece: a turn, and the end. Assumes nothing.
-use Prim.Native.Nat.{ℕ, zero, suc, _+_, _-_, _≤_, _<_}
+use Prim.Native.Nat.{ℕ, suc, _+_, _-_, _≤_, _<_}
 use native.Mathlib.Omega.{arith}
 use mathlib.Core.Path.{_≡_, refl, sym, ap, subst, _∙_}
 use mathlib.Core.Bool.{Bool, true, false, cond, _&&_, false≢true}
 use mathlib.Core.List.{List, [], _∷_, _++_, map, append-assoc, append-nil}
 use borrow.Author.Tests.{lt-ltb, le-ltb, eq-eqb}
-use lib.Dec.{ltb, eqb}
-use lib.ListN.{length, take, drop, length-append, length-take, length-drop}
+use lib.Dec.{eqb}
+use lib.ListN.{length, take, drop, length-append, length-drop}
 use lib.Seq.{drop-drop, take-all, length-take-le}
-use Rattle.refusal.specs.Refusals.{Answered, served, refused}
+use Rattle.refusal.specs.Refusals.{served, refused}
 use Rattle.refusal.specs.Room.{overlay}
 use Rattle.refusal.proofs.Room.{overlay-nothing, overlay-then, take-overlay}
 use Rattle.refusal.proofs.Rest.{rest-end}
-use Rattle.shdlc.specs.Stream.{Event, byte, Item}
+use Rattle.shdlc.specs.Stream.{byte, Item}
 use Rattle.shdlc.proofs.Stream.{map-append}
 use Rattle.receiver.specs.declared.Fed.{Fed}
 use Rattle.receiver.specs.Record.{Record, held, inRange, opened, pending, itemOf, nextByte, nextRecord, recordFrom}
-use Rattle.receiver.specs.Calls.{Said, nothing, gave, Outcome, paperAnswer, paperFed, saidOf, bufferOf, completed, unfinished, closes, Scan, scanFrom, fedBy, feedOf}
+use Rattle.receiver.specs.Calls.{Outcome, paperAnswer, paperFed, saidOf, bufferOf, completed, unfinished, closes, Scan, scanFrom, fedBy, feedOf}
 use Rattle.receiver.proofs.Cases.{feed-scan}
 use Rattle.receiver.proofs.EverySeries.{record-append}
 use Rattle.lines.specs.Program.{lineOf}

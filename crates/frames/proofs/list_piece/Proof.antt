@@ -1,14 +1,14 @@
 -- `frames::list_piece` meets its contract. The invariant: what is left of the piece takes the listing to where the whole does. Assumes nothing.
 use borrow.Author.Needs.{needs}
-use Prim.Native.Nat.{ℕ, _+_, _-_, _≤_, _<_}
+use Prim.Native.Nat.{ℕ, _+_, _-_, _≤_}
 use native.Mathlib.Omega.{arith}
-use mathlib.Core.Path.{_≡_, refl, sym, ap, subst, _∙_}
-use mathlib.Core.Bool.{true, false≢true}
+use mathlib.Core.Path.{_≡_, refl, sym, ap, _∙_}
+use mathlib.Core.Bool.{false≢true}
 use mathlib.Core.List.{List, map}
-use lib.ListN.{length, take, drop, length-drop}
+use lib.ListN.{length, drop, length-drop}
 use Rattle.refusal.proofs.Rest.{rest-end}
 use Rattle.shdlc.specs.Stream.{byte}
-use Rattle.receiver.specs.Record.{Record, held, recordFrom}
+use Rattle.receiver.specs.Record.{held, recordFrom}
 use Rattle.lines.specs.declared.Listing.{Listing}
 use Rattle.lines.specs.Listing.{Progress, paperListing, fillOf}
 use Rattle.lines.proofs.Loop.{rest-slice}

@@ -1,8 +1,8 @@
 -- `frames::write_text` meets its contract: what a write takes is within what is left. Assumes nothing.
 use borrow.Author.Needs.{needs}
-use Prim.Native.Nat.{ℕ, _+_, _-_, _≤_}
+use Prim.Native.Nat.{_+_, _-_, _≤_}
 use native.Mathlib.Omega.{arith}
-use lib.ListN.{length, take, drop, length-take, length-drop}
+use lib.ListN.{length, drop, length-take, length-drop}
 use Rattle.frames.proofs.write_text.Statement.{statement}
 use Rattle.frames.proofs.write_text.Tie as tie
 

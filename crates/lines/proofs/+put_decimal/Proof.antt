@@ -5,7 +5,7 @@ use borrow.Fn.PlainCycle.{Measures, is, falls, and}
 use Prim.Native.Nat.{ℕ, _+_, _/_, _%_, _≤_, _<_}
 use native.Mathlib.Omega.{arith}
 use mathlib.Core.Path.{_≡_, sym, ap, _∙_}
-use mathlib.Core.List.{List, [], _∷_, _++_}
+use mathlib.Core.List.{List, [], _∷_}
 use lib.ListN.{length, set, length-set, length-append}
 use Rattle.refusal.specs.Room.{overlay}
 use Rattle.refusal.proofs.Room.{set-overlay, overlay-then, length-overlay}

@@ -1,8 +1,8 @@
 -- `lines::list` meets its contract. The invariant: a listing of what is left of the piece, from here on, gives the whole. Assumes nothing.
 use borrow.Author.Needs.{needs}
-use Prim.Native.Nat.{ℕ, _+_, _-_, _≤_, _<_}
+use Prim.Native.Nat.{_+_, _-_, _≤_, _<_}
 use native.Mathlib.Omega.{arith}
-use mathlib.Core.Path.{_≡_, refl, sym, ap, _∙_}
+use mathlib.Core.Path.{_≡_, refl, _∙_}
 use mathlib.Core.Bool.{true}
 use lib.ListN.{length, take, drop, length-take, length-drop}
 use Rattle.receiver.specs.Record.{held, inRange}
