@@ -16,7 +16,8 @@ use Rattle.receiver.specs.Record.{Record, inRange, pending, itemOf, nextByte, n
 use Rattle.receiver.proofs.Simulation.{At, at-next, at-gain, at-range, at-fresh}
 use Rattle.lines.specs.Text.{endLine}
 use Rattle.lines.specs.Program.{lineOf, linesOf, limit, textFor, programText}
-use Rattle.lines.specs.Listing.{Progress, start, shownBy, fitting, Fill, filledBy, refusedFill, Hand, fill, textIn, textBy, putOut, tookIn, HandsIn, EveryListing}
+use Rattle.lines.specs.Listing.{Progress, start, shownBy, fitting, Fill, filledBy, refusedFill}
+use Rattle.lines.specs.Series.{Hand, fill, textIn, textBy, putOut, tookIn, HandsIn, EveryListing}
 use Rattle.lines.proofs.Filling.{fitting-front, fitting-within, fitting-some, fill-room, fill-free}
 
 lines-append : (a b : List Item) → linesOf (a ++ b) ≡ linesOf a ++ linesOf b

@@ -2,4 +2,5 @@
 pub mod Text
 pub mod Program
 pub mod Listing
+pub mod Series
 pub mod Private
