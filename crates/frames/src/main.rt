@@ -7,13 +7,9 @@ use receiver::Made;
 use shdlc::Kind;
 use shdlc::Written;
 ghost use mathlib.Core.Path.{_≡_};
-ghost use mathlib.Core.Bool.{true};
-ghost use mathlib.Core.List.{map};
 ghost use Prim.Native.Nat.{_-_, _≤_};
 ghost use lib.ListN.{length};
-ghost use Rattle.shdlc.specs.Stream.{byte};
-ghost use Rattle.receiver.specs.Record.{recordFrom};
-ghost use Rattle.lines.specs.Listing.{paperListing};
+ghost use Rattle.frames.specs.Private.{ListsAll};
 
 // Writes all of a text, or stops at the first write that takes nothing; says whether all was written.
 fn write_text(fd: i32, text: &[u8]) -> bool {
@@ -49,7 +45,7 @@ struct Room {
 // Prints what the room holds where it may not hold another line.
 fn make_room(out: &[u8], filled: usize) -> Room
     requires { ⌜ filled ≤ length (now out) ⌝ }
-    ensures { λ r. ⌜ r .place ≤ length (now (out .entry)) ⌝ }
+    ensures { λ r. ⌜ (r .place ≤ length (now (out .entry))) × (24 ≤ length (now (out .entry)) - filled → r .place ≡ filled) ⌝ }
 {
     if out.len() - filled < 24 {
         let ok = print(&out[..filled]);
@@ -68,10 +64,10 @@ struct Shown {
     ok: bool,
 }
 
-// Lists all of a piece: its last lines stand in the room, those before them are printed.
+// Lists all of a piece. Where the room holds its lines, they stand in it; else the last of them do, and those before them are printed.
 fn list_piece(from: Listing, store: &mut [u8], piece: &[u8], out: &mut [u8]) -> Shown
     requires { ⌜ length (now piece) ≤ from .left ⌝ }
-    ensures { λ s. ⌜ (s .filled ≤ length (now (out .entry))) × (s .ok ≡ true → paperListing (s .listing) (now (store .exit)) ≡ record { holds = recordFrom (paperListing from (now (store .entry)) .holds) (map byte (now (piece .entry))); left = from .left - length (now (piece .entry)) }) ⌝ }
+    ensures { λ s. ⌜ ListsAll from (now (store .entry)) (now (piece .entry)) (now (out .entry)) s (now (store .exit)) (now (out .exit)) ⌝ }
 {
     let mut l = from;
     let mut at: usize = 0;

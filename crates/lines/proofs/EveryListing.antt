@@ -7,7 +7,7 @@ use mathlib.Core.List.{List, [], _∷_, _++_, map, append-assoc, append-nil}
 use borrow.Author.Tests.{ltb-true, ltb-false}
 use lib.Dec.{ltb, eqb}
 use lib.ListN.{length, take, drop, replicate, length-append, length-take, length-replicate, take-append-drop}
-use lib.Seq.{drop-append-seam, take-append-seam, take-all, take-take, length-take-le, take-append-add}
+use lib.Seq.{drop-append-seam, take-all, take-take, length-take-le, take-append-add}
 use Rattle.refusal.specs.Room.{overlay}
 use Rattle.shdlc.specs.declared.Kind.{Kind}
 use Rattle.shdlc.specs.Stream.{Event, byte, Item, Place, outside, next, gain, itemsFrom, items}
@@ -18,6 +18,7 @@ use Rattle.lines.specs.Text.{endLine}
 use Rattle.lines.specs.Program.{lineOf, linesOf, limit, textFor, programText}
 use Rattle.lines.specs.Listing.{Progress, start, shownBy, fitting, Fill, filledBy, refusedFill}
 use Rattle.lines.specs.Series.{Hand, fill, textIn, textBy, putOut, tookIn, HandsIn, EveryListing}
+use Rattle.lines.proofs.Loop.{take-laid}
 use Rattle.lines.proofs.Filling.{fitting-front, fitting-within, fitting-some, fill-room, fill-free}
 
 lines-append : (a b : List Item) → linesOf (a ++ b) ≡ linesOf a ++ linesOf b
@@ -51,14 +52,9 @@ at-record kind (e ∷ es) place r h = at-record kind es (next place e) (nextReco
 
 -- a text that was laid, read again
 read-again : (out text : List ℕ) (place : ℕ) → place ≤ length out → drop place (take (place + length text) (overlay out place text)) ≡ text
-unfolding overlay
 read-again out text place h =
-    let front : List ℕ = take place out in
-    let past : List ℕ = drop (place + length text) out in
-    let size : length front ≡ place = length-take-le place out h in
-    subst (λ (n : ℕ). drop n (take (n + length text) (front ++ (text ++ past))) ≡ text) size
-    (ap (drop (length front)) (take-append-add front (text ++ past) (length text) ∙ ap (λ (l : List ℕ). front ++ l) (take-append-seam text past))
-    ∙ drop-append-seam front text)
+    ap (drop place) (take-laid out text place h)
+    ∙ subst (λ (n : ℕ). drop n (take place out ++ text) ≡ text) (length-take-le place out h) (drop-append-seam (take place out) text)
 
 -- a call: the bytes that it takes, and what it does with them
 abbrev taken-by : Progress → Hand → List ℕ

@@ -20,7 +20,7 @@ use Rattle.lines.specs.declared.Listed.{Listed}
 use Rattle.lines.specs.declared.Filled.{Filled}
 use Rattle.lines.specs.Listing.{Progress, shown, shownBy, fitting, Fill, paperFilled, filledBy, refusedFill, fillOf}
 use Rattle.lines.specs.Private.{Part, paperListed, listOf}
-use Rattle.lines.proofs.Loop.{laid-within}
+use Rattle.lines.proofs.Loop.{shown-append, laid-within, take-laid}
 
 -- the bytes taken are the front of a piece, within what may be read
 front : (t : Bool) (b : ℕ) (u piece : List ℕ) → take (length u) piece ≡ u → take (length (cond t [] (b ∷ u))) (b ∷ piece) ≡ cond t [] (b ∷ u)
@@ -86,18 +86,19 @@ unfolding fitting
 fitting-some [] room r h g = omega arith
 fitting-some (b ∷ piece) room r h g = rw (le-ltb room 24 h) (omega arith)
 
-pub record Went (p : Progress) (piece out : List ℕ) (f : Filled) (store after : List ℕ) (n : ℕ) : Type 0 where
+pub record Went (p : Progress) (piece out : List ℕ) (place : ℕ) (f : Filled) (store after : List ℕ) (n : ℕ) : Type 0 where
   pub within : f .taken ≤ length piece
   pub some : 1 ≤ length piece → 1 ≤ p .left → 1 ≤ f .taken
   pub holds : held (f .listing .receiver) store ≡ recordFrom (p .holds) (map byte (take (f .taken) piece))
   pub left : f .listing .left ≡ p .left - f .taken
   pub enough : f .taken ≤ p .left
-  pub place : length after ≡ length out → n ≤ length out
+  pub fits : length after ≡ length out → n ≤ length out
+  pub text : take n after ≡ take place out ++ shownBy (p .holds) (take (f .taken) piece)
 
 module _ (p : Progress) (piece out : List ℕ) (place : ℕ) (f : Filled) {store after : List ℕ} {n : ℕ} where
   went-free : 24 ≤ length out - place → served n ≡ paperWritten (f .said)
       → paperFilled f store after ≡ filledBy p (fitting (length out - place) (p .holds) (take (p .left) piece)) out place
-      → Went p piece out f store after n
+      → Went p piece out place f store after n
   went-free h said e =
       let bytes : List ℕ = fitting (length out - place) (p .holds) (take (p .left) piece) in
       let text : List ℕ = shownBy (p .holds) bytes in
@@ -116,17 +117,20 @@ module _ (p : Progress) (piece out : List ℕ) (place : ℕ) (f : Filled) {store
         holds = ap (λ (x : Fill). x .leaves .holds) e ∙ ap (λ (l : List ℕ). recordFrom (p .holds) (map byte l)) (sym front);
         left = ap (λ (x : Fill). x .leaves .left) e ∙ ap (λ (m : ℕ). p .left - m) (sym taken);
         enough = omega (arith, taken);
-        place =
+        fits =
             λ kept. omega (arith, laid-within out text place (omega arith) (ap length (sym (ap (λ (x : Fill). x .out) e)) ∙ kept), is);
+        text =
+            ap (λ (m : ℕ). take m after) is ∙ ap (λ (x : Fill). take (place + length text) (x .out)) e ∙ take-laid out text place (omega arith)
+            ∙ ap (λ (l : List ℕ). take place out ++ shownBy (p .holds) l) (sym front);
       }
 
-  pub went : paperFilled f store after ≡ fillOf p piece out place → f .said ≡ Done n → Went p piece out f store after n
+  pub went : paperFilled f store after ≡ fillOf p piece out place → f .said ≡ Done n → Went p piece out place f store after n
   went e done = go (inRange (p .holds)) (ltb (length out - place) 24) refl refl
     where
       says : served n ≡ paperWritten (f .said)
       says = ap paperWritten (sym done)
 
-      go : (t u : Bool) → inRange (p .holds) ≡ t → ltb (length out - place) 24 ≡ u → Went p piece out f store after n
+      go : (t u : Bool) → inRange (p .holds) ≡ t → ltb (length out - place) 24 ≡ u → Went p piece out place f store after n
       go true true g h =
           absurd (refused-not-served (sym (says ∙ ap (λ (x : Fill). x .said) (e ∙ sym (fill-room p piece out place g (ltb-true _ _ h))))))
       go true false g h =
@@ -143,3 +147,12 @@ went-on r next piece i n e =
     (sym (map-append (take n (drop i piece)) (drop (i + n) piece))
     ∙ ap (map byte)
     (ap (λ (l : List ℕ). take n (drop i piece) ++ l) (sym (drop-drop n i piece)) ∙ take-append-drop n (drop i piece)))
+
+-- and its text
+pub shown-on : (r next : Record) (piece : List ℕ) (i n : ℕ) → next ≡ recordFrom r (map byte (take n (drop i piece)))
+    → shownBy r (take n (drop i piece)) ++ shownBy next (drop (i + n) piece) ≡ shownBy r (drop i piece)
+shown-on r next piece i n e =
+    let rest : List ℕ = drop i piece in
+    ap (λ (x : Record). shownBy r (take n rest) ++ shownBy x (drop (i + n) piece)) e
+    ∙ sym (shown-append (take n rest) (drop (i + n) piece) r)
+    ∙ ap (shownBy r) (ap (λ (l : List ℕ). take n rest ++ l) (sym (drop-drop n i piece)) ∙ take-append-drop n rest)

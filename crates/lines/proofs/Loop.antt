@@ -7,7 +7,7 @@ use mathlib.Core.List.{List, [], _∷_, _++_, map, append-assoc, append-nil}
 use borrow.Author.Tests.{lt-ltb, le-ltb, eq-eqb}
 use lib.Dec.{eqb}
 use lib.ListN.{length, take, drop, length-append, length-drop}
-use lib.Seq.{drop-drop, take-all, length-take-le}
+use lib.Seq.{drop-drop, take-all, take-append-seam, take-append-add, length-take-le}
 use Rattle.refusal.specs.Refusals.{served, refused}
 use Rattle.refusal.specs.Room.{overlay}
 use Rattle.refusal.proofs.Room.{overlay-nothing, overlay-then, take-overlay}
@@ -137,6 +137,15 @@ laid-within room text place h e =
     let size : length (take place room ++ (text ++ drop (place + length text) room)) ≡ place + (length text + (length room - (place + length text))) =
     simp (length-append, length-take-le place room h, length-drop) in
     omega arith
+
+-- what stands before the end of a text that was laid
+pub take-laid : (room text : List ℕ) (place : ℕ) → place ≤ length room → take (place + length text) (overlay room place text) ≡ take place room ++ text
+unfolding overlay
+take-laid room text place h =
+    let front : List ℕ = take place room in
+    let past : List ℕ = drop (place + length text) room in
+    subst (λ (n : ℕ). take (n + length text) (front ++ (text ++ past)) ≡ front ++ text) (length-take-le place room h)
+    (take-append-add front (text ++ past) (length text) ∙ ap (λ (l : List ℕ). front ++ l) (take-append-seam text past))
 
 -- after an item the record is within its ranges
 range-opened : (r s : Record) → s ≡ opened r → length (s .store) ≡ 260 → inRange s ≡ true

@@ -4,15 +4,16 @@ use Prim.Native.Nat.{ℕ, _+_, _-_, _≤_}
 use native.Mathlib.Omega.{arith}
 use mathlib.Core.Path.{_≡_, refl, sym, ap, _∙_}
 use mathlib.Core.Bool.{false≢true}
-use mathlib.Core.List.{List, map}
-use lib.ListN.{length, drop, length-drop}
+use mathlib.Core.List.{List, _++_, map, append-assoc, append-nil}
+use lib.ListN.{length, take, drop, length-drop, length-append}
+use lib.Seq.{length-take-le}
 use Rattle.refusal.proofs.Rest.{rest-end}
 use Rattle.shdlc.specs.Stream.{byte}
-use Rattle.receiver.specs.Record.{held, recordFrom}
+use Rattle.receiver.specs.Record.{Record, held, recordFrom}
 use Rattle.lines.specs.declared.Listing.{Listing}
-use Rattle.lines.specs.Listing.{Progress, paperListing, fillOf}
+use Rattle.lines.specs.Listing.{Progress, paperListing, shownBy, fillOf}
 use Rattle.lines.proofs.Loop.{rest-slice}
-use Rattle.lines.proofs.Filling.{Went, went, went-on}
+use Rattle.lines.proofs.Filling.{Went, went, went-on, shown-on}
 use Rattle.frames.proofs.list_piece.Statement.{statement}
 use Rattle.frames.proofs.list_piece.Tie as tie
 
@@ -21,6 +22,8 @@ Inv-loop store₀ piece out₀ l₀ at₀ filled₀ store out l at filled =
     (at ≤ length piece) × (filled ≤ length out) × (length store ≡ length store₀) × (length out ≡ length out₀)
     × (l .left + at ≡ l₀ .left)
     × (recordFrom (held (l .receiver) store) (map byte (drop at piece)) ≡ recordFrom (held (l₀ .receiver) store₀) (map byte piece))
+    × (length (shownBy (held (l₀ .receiver) store₀) piece) + 24 ≤ length out₀
+    → take filled out ++ shownBy (held (l .receiver) store) (drop at piece) ≡ shownBy (held (l₀ .receiver) store₀) piece)
 
 abbrev μ-loop : tie.MeasureT-loop
 μ-loop store₀ piece out₀ l₀ at₀ filled₀ store out l at filled = length piece - at
@@ -39,7 +42,7 @@ module _ (c : tie.After-said Inv-loop μ-loop) where
   abbrev place : ℕ
   place = filled .before .before .before .before .before .before .make-room .result .place
 
-  turned : Went (paperListing (at .loop .l) (at .loop .store)) (drop (at .loop .at) (first .args .piece .now)) (at .loop .out) (filled .fill .result)
+  turned : Went (paperListing (at .loop .l) (at .loop .store)) (drop (at .loop .at) (first .args .piece .now)) (at .loop .out) place (filled .fill .result)
       (filled .fill .last .1 .0) (filled .fill .last .1 .1 .1 .0) (c .said .given .0 .0)
   turned =
       went (paperListing (at .loop .l) (at .loop .store)) (drop (at .loop .at) (first .args .piece .now)) (at .loop .out) place (filled .fill .result)
@@ -65,17 +68,34 @@ done l from store store₀ piece i h g left e =
     let less : l .left ≡ from .left - length piece = omega arith in
     λ k. record { holds = same k; left = less k }
 
+-- the text grows, where all of it fits the room: what stood before the call, what the call laid, and what is left
+grown : (out out₀ now left : List ℕ) (filled place : ℕ) {after rest text : List ℕ} → filled ≤ length out → length out ≡ length out₀
+    → length text + 24 ≤ length out₀ → (24 ≤ length out - filled → place ≡ filled) → after ≡ take place out ++ now → now ++ left ≡ rest
+    → take filled out ++ rest ≡ text → after ++ left ≡ text
+grown out out₀ now left filled place {after} {rest} {text} h kept fits stays laid joined whole =
+    let size = length-take-le filled out h in
+    let sum = length-append (take filled out) rest in
+    let same : place ≡ filled = stays (omega (arith, size, sum, ap length whole)) in
+    ap (λ (l : List ℕ). l ++ left) (laid ∙ ap (λ (m : ℕ). take m out ++ now) same)
+    ∙ append-assoc (take filled out) now left
+    ∙ ap (λ (l : List ℕ). take filled out ++ l) joined
+    ∙ whole
+
+all-shown : (r : Record) (piece : List ℕ) (i : ℕ) {front text : List ℕ} → length piece ≤ i → front ++ shownBy r (drop i piece) ≡ text → front ≡ text
+unfolding shownBy
+all-shown r piece i {front} h e = sym (append-nil front) ∙ ap (λ (l : List ℕ). front ++ shownBy r l) (sym (rest-end piece i h)) ∙ e
+
 pub list-piece-spec : {M : Type 1} → statement M
 list-piece-spec =
     tie.close
     (tie.spec
     Inv-loop
     μ-loop
-    (λ c. (omega arith, omega arith, refl, refl, omega arith, refl))
+    (λ c. (omega arith, omega arith, refl, refl, omega arith, refl, λ h. refl))
     (λ c κs. search needs)
     (λ c. search needs)
     (λ c. search needs)
-    (λ c. (search needs, λ h. absurd (false≢true h)))
+    (λ c. (search needs, (λ h. absurd (false≢true h)), λ h. absurd (false≢true h)))
     (λ c. search needs)
     (λ c. search needs)
     (λ c. search needs)
@@ -84,7 +104,7 @@ list-piece-spec =
     (λ c. search needs)
     (λ c. search needs)
     (λ c. search needs)
-    (λ c. (omega arith, λ h. absurd (false≢true h)))
+    (λ c. (omega arith, (λ h. absurd (false≢true h)), λ h. absurd (false≢true h)))
     (λ c. omega (arith, inside (c .before), first (c .before) .good .1 .1 .0 .0))
     (λ c.
     let t = turned (c .before) in
@@ -97,16 +117,24 @@ list-piece-spec =
     let t = turned s in
     let l = at s .loop in (
       omega (arith, t .within, rest s),
-      omega (arith, t .place (filled s .fill .kept .1 .1 .1 .0), filled s .fill .kept .1 .1 .1 .0),
+      omega (arith, t .fits (filled s .fill .kept .1 .1 .1 .0), filled s .fill .kept .1 .1 .1 .0),
       filled s .fill .kept .1 .0 ∙ l .inv .2,
       filled s .fill .kept .1 .1 .1 .0 ∙ l .inv .3,
       omega (arith, t .left, t .enough),
       went-on (held (l .l .receiver) (l .store)) (held (filled s .fill .result .listing .receiver) (filled s .fill .last .1 .0)) (first s .args .piece .now)
           (l .at) (filled s .fill .result .taken) (t .holds) ∙ l .inv .5,
+      λ h. grown (l .out) (first s .args .out .now)
+          (shownBy (held (l .l .receiver) (l .store)) (take (filled s .fill .result .taken) (drop (l .at) (first s .args .piece .now))))
+          (shownBy (held (filled s .fill .result .listing .receiver) (filled s .fill .last .1 .0)) (drop (l .at + filled s .fill .result .taken) (first s .args .piece .now)))
+          (l .filled) (place s) (l .inv .1) (l .inv .3) h (filled s .before .before .before .before .before .before .make-room .ensures .1) (t .text)
+          (shown-on (held (l .l .receiver) (l .store)) (held (filled s .fill .result .listing .receiver) (filled s .fill .last .1 .0)) (first s .args .piece .now) (l .at) (filled s .fill .result .taken) (t .holds)) (l .inv .6 h),
     ))
     (λ c. search needs)
     (λ c. search needs)
     (λ c.
     let l = c .before .loop in
-    let a = c .before .before .before .before .before .args in
-    (omega (arith, l .inv .3), λ h. done (l .l) (a .from) (l .store) (a .store .now) (a .piece .now) (l .at) (l .inv .0) (c .loop-test .left) (l .inv .4) (l .inv .5))))
+    let a = c .before .before .before .before .before .args in (
+      omega (arith, l .inv .3),
+      (λ h. done (l .l) (a .from) (l .store) (a .store .now) (a .piece .now) (l .at) (l .inv .0) (c .loop-test .left) (l .inv .4) (l .inv .5)),
+      λ h g. all-shown (held (l .l .receiver) (l .store)) (a .piece .now) (l .at) (c .loop-test .left) (l .inv .6 g),
+    )))
