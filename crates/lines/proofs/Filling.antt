@@ -9,13 +9,15 @@ use lib.Dec.{ltb}
 use lib.ListN.{length, take, drop, length-take, take-append-drop}
 use lib.Seq.{take-take, drop-drop}
 use Rattle.refusal.specs.Refusals.{served}
+use Rattle.refusal.specs.declared.Refusal.{Refusal}
 use Rattle.refusal.proofs.Order.{refused-not-served}
 use Rattle.shdlc.specs.Paper.{paperWritten}
-use Rattle.shdlc.specs.declared.Written.the-variants.{Done}
-use Rattle.shdlc.specs.Stream.{byte}
+use Rattle.shdlc.specs.declared.Written.the-variants.{Done, Refused}
+use Rattle.shdlc.specs.Stream.{Event, byte}
 use Rattle.shdlc.proofs.Stream.{map-append}
-use Rattle.receiver.specs.Record.{Record, held, inRange, nextByte, recordFrom}
-use Rattle.receiver.proofs.EverySeries.{record-append}
+use Rattle.receiver.specs.Record.{Record, held, inRange, fresh, nextByte, recordFrom}
+use Rattle.receiver.proofs.EverySeries.{record-append, demand3}
+use Rattle.receiver.proofs.Reached.{reached}
 use Rattle.lines.specs.declared.Listed.{Listed}
 use Rattle.lines.specs.declared.Filled.{Filled}
 use Rattle.lines.specs.Listing.{Progress, shown, shownBy, fitting, Fill, paperFilled, filledBy, refusedFill, fillOf}
@@ -136,6 +138,19 @@ module _ (p : Progress) (piece out : List ℕ) (place : ℕ) (f : Filled) {store
       go true false g h =
           let free = ltb-false (length out - place) 24 h in went-free free says (e ∙ sym (fill-free p piece out place g free))
       go false u g h = absurd (refused-not-served (sym (says ∙ ap (λ (x : Fill). x .said) (e ∙ sym (fill-range p piece out place g)))))
+
+-- a record within its ranges and 24 bytes of room are never refused
+pub never-refused : (p : Progress) (piece out : List ℕ) (place : ℕ) (f : Filled) {store after : List ℕ} {why : Refusal} → paperFilled f store after ≡ fillOf p piece out place → inRange (p .holds) ≡ true → 24 ≤ length out - place
+    → f .said ≡ Refused why → ⊥
+never-refused p piece out place f e range free said =
+    refused-not-served (sym (ap paperWritten said) ∙ ap (λ (x : Fill). x .said) (e ∙ sym (fill-free p piece out place range free)))
+
+-- bytes keep a record within its ranges
+pub range-kept : (r : Record) (more : List Event) → inRange r ≡ true → inRange (recordFrom r more) ≡ true
+range-kept r more h =
+    let s = reached r h in
+    ap inRange (ap (λ (x : Record). recordFrom x more) (sym (s .1)) ∙ sym (record-append (s .0) more (fresh (r .kind))))
+    ∙ demand3 (r .kind) .in-ranges (s .0 ++ more)
 
 -- the record after what is left of a piece
 pub went-on : (r next : Record) (piece : List ℕ) (i n : ℕ) → next ≡ recordFrom r (map byte (take n (drop i piece)))

@@ -3,17 +3,18 @@ use borrow.Author.Needs.{needs}
 use Prim.Native.Nat.{ℕ, _+_, _-_, _≤_}
 use native.Mathlib.Omega.{arith}
 use mathlib.Core.Path.{_≡_, refl, sym, ap, _∙_}
-use mathlib.Core.Bool.{false≢true}
+use mathlib.Core.Bool.{true, false≢true}
 use mathlib.Core.List.{List, _++_, map, append-assoc, append-nil}
 use lib.ListN.{length, take, drop, length-drop, length-append}
 use lib.Seq.{length-take-le}
 use Rattle.refusal.proofs.Rest.{rest-end}
 use Rattle.shdlc.specs.Stream.{byte}
-use Rattle.receiver.specs.Record.{Record, held, recordFrom}
+use Rattle.receiver.specs.Record.{Record, held, inRange, recordFrom}
+use Rattle.receiver.proofs.Cases.{not-false}
 use Rattle.lines.specs.declared.Listing.{Listing}
 use Rattle.lines.specs.Listing.{Progress, paperListing, shownBy, fillOf}
 use Rattle.lines.proofs.Loop.{rest-slice}
-use Rattle.lines.proofs.Filling.{Went, went, went-on, shown-on}
+use Rattle.lines.proofs.Filling.{never-refused, range-kept, Went, went, went-on, shown-on}
 use Rattle.frames.proofs.list_piece.Statement.{statement}
 use Rattle.frames.proofs.list_piece.Tie as tie
 
@@ -24,6 +25,7 @@ Inv-loop store₀ piece out₀ l₀ at₀ filled₀ store out l at filled =
     × (recordFrom (held (l .receiver) store) (map byte (drop at piece)) ≡ recordFrom (held (l₀ .receiver) store₀) (map byte piece))
     × (length (shownBy (held (l₀ .receiver) store₀) piece) + 24 ≤ length out₀
     → take filled out ++ shownBy (held (l .receiver) store) (drop at piece) ≡ shownBy (held (l₀ .receiver) store₀) piece)
+    × (inRange (held (l .receiver) store) ≡ true)
 
 abbrev μ-loop : tie.MeasureT-loop
 μ-loop store₀ piece out₀ l₀ at₀ filled₀ store out l at filled = length piece - at
@@ -55,6 +57,17 @@ inside : (c : tie.After-said Inv-loop μ-loop)
     → c .before .before .before .before .before .before .before .before .before .before .before .before .before .before .before .before .loop .at + c .before .before .before .before .before .before .before .fill .result .taken
     ≤ length (c .before .before .before .before .before .before .before .before .before .before .before .before .before .before .before .before .before .before .before .before .args .piece .now)
 inside c = omega (arith, turned c .within, rest c, at c .loop .inv .0)
+
+-- the call is not refused
+served : (c : tie.After-enum-told Inv-loop μ-loop) → ⊥
+served c =
+    let f = c .before .before .before .before .before .before .before in
+    let l = f .before .before .before .before .before .before .before .before .before .loop in
+    let a = f .before .before .before .before .before .before .before .before .before .before .before .before .before .args in
+    let r = f .before .before .before .before .before .before in
+    let ok = not-false (r .make-room .result .ok) (f .before .before .before .before .if1 .left) in
+    never-refused (paperListing (l .l) (l .store)) _ (l .out) (r .make-room .result .place) (f .fill .result) (f .fill .ensures) (l .inv .7)
+    (r .make-room .ensures .2 ok (omega (arith, l .inv .3, f .before .before .before .before .before .before .before .before .before .before .before .before .before .pre .1))) (c .enum-told .given .1)
 
 -- nothing is left
 done : (l from : Listing) (store store₀ piece : List ℕ) (i : ℕ) → i ≤ length piece → length piece ≤ i → l .left + i ≡ from .left
@@ -91,7 +104,7 @@ list-piece-spec =
     (tie.spec
     Inv-loop
     μ-loop
-    (λ c. (omega arith, omega arith, refl, refl, omega arith, refl, λ h. refl))
+    (λ c. (omega arith, omega arith, refl, refl, omega arith, refl, (λ h. refl), c .before .before .before .pre .2))
     (λ c κs. search needs)
     (λ c. search needs)
     (λ c. search needs)
@@ -104,14 +117,14 @@ list-piece-spec =
     (λ c. search needs)
     (λ c. search needs)
     (λ c. search needs)
-    (λ c. (omega arith, (λ h. absurd (false≢true h)), λ h. absurd (false≢true h)))
+    (λ c. absurd (served c))
     (λ c. omega (arith, inside (c .before), first (c .before) .good .1 .1 .0 .0))
     (λ c.
     let t = turned (c .before) in
     let l = at (c .before) .loop in
     let size = rest (c .before) in
     let e = filled (c .before) .before .before .before .before .before .before .before .before in
-    omega (arith, t .within, t .some (omega arith) (omega (arith, first (c .before) .pre))))
+    omega (arith, t .within, t .some (omega arith) (omega (arith, first (c .before) .pre .0))))
     (λ c.
     let s = c .before in
     let t = turned s in
@@ -123,11 +136,12 @@ list-piece-spec =
       omega (arith, t .left, t .enough),
       went-on (held (l .l .receiver) (l .store)) (held (filled s .fill .result .listing .receiver) (filled s .fill .last .1 .0)) (first s .args .piece .now)
           (l .at) (filled s .fill .result .taken) (t .holds) ∙ l .inv .5,
-      λ h. grown (l .out) (first s .args .out .now)
+      (λ h. grown (l .out) (first s .args .out .now)
           (shownBy (held (l .l .receiver) (l .store)) (take (filled s .fill .result .taken) (drop (l .at) (first s .args .piece .now))))
           (shownBy (held (filled s .fill .result .listing .receiver) (filled s .fill .last .1 .0)) (drop (l .at + filled s .fill .result .taken) (first s .args .piece .now)))
           (l .filled) (place s) (l .inv .1) (l .inv .3) h (filled s .before .before .before .before .before .before .make-room .ensures .1) (t .text)
-          (shown-on (held (l .l .receiver) (l .store)) (held (filled s .fill .result .listing .receiver) (filled s .fill .last .1 .0)) (first s .args .piece .now) (l .at) (filled s .fill .result .taken) (t .holds)) (l .inv .6 h),
+          (shown-on (held (l .l .receiver) (l .store)) (held (filled s .fill .result .listing .receiver) (filled s .fill .last .1 .0)) (first s .args .piece .now) (l .at) (filled s .fill .result .taken) (t .holds)) (l .inv .6 h)),
+      ap inRange (t .holds) ∙ range-kept (held (l .l .receiver) (l .store)) _ (l .inv .7),
     ))
     (λ c. search needs)
     (λ c. search needs)

@@ -1,28 +1,50 @@
--- `frames::main` meets its contract. The invariant: the lent arrays keep their lengths. The measure is what may still be read. Assumes
+-- `frames::main` meets its contract. The invariant: the lent arrays keep their lengths, and the record is within its ranges. The measure is what may still be read. Assumes
 -- nothing.
 use borrow.Author.Needs.{needs}
 use Prim.Native.Nat.{ℕ, _-_, _≤_, _<_}
 use native.Mathlib.Omega.{arith}
 use mathlib.Core.Path.{_≡_, refl, sym, ap, _∙_}
 use mathlib.Core.Bool.{true}
-use mathlib.Core.List.{List, _++_}
-use lib.ListN.{length, take, drop, length-append, length-drop}
+use mathlib.Core.List.{List, _++_, map}
+use lib.ListN.{length, take, drop, replicate, length-append, length-drop}
 use lib.Seq.{length-take-le}
+use Rattle.refusal.specs.Refusals.{Answered, served}
 use Rattle.refusal.specs.Room.{emit}
 use Rattle.refusal.proofs.Room.{served-within}
 use Rattle.shdlc.specs.Paper.{paperWritten}
 use Rattle.shdlc.specs.declared.Written.{Written}
 use Rattle.shdlc.specs.declared.Written.the-variants.{Done}
+use Rattle.shdlc.specs.declared.Kind.the-variants.{Request}
+use Rattle.shdlc.specs.Stream.{byte}
+use Rattle.receiver.specs.declared.Receiver.{Receiver}
+use Rattle.receiver.specs.declared.Made.{Made}
+use Rattle.receiver.specs.declared.Made.the-variants.{Fresh}
+use Rattle.receiver.specs.Record.{Record, held, inRange, fresh}
+use Rattle.receiver.specs.Calls.{paperMade, freshOf}
 use Rattle.receiver.proofs.Cases.{not-false}
+use Rattle.lines.specs.declared.Listing.{Listing}
 use Rattle.lines.specs.Listing.{Progress}
+use Rattle.lines.proofs.Filling.{range-kept}
 use Rattle.frames.proofs.main.Statement.{statement}
 use Rattle.frames.proofs.main.Tie as tie
 
 abbrev Inv-loop : tie.InvT-loop
-Inv-loop store₀ piece₀ out₀ l₀ store piece out l = (length store ≡ 260) × (length piece ≡ 416) × (length out ≡ 880)
+Inv-loop store₀ piece₀ out₀ l₀ store piece out l =
+    (length store ≡ 260) × (length piece ≡ 416) × (length out ≡ 880) × (inRange (held (l .receiver) store) ≡ true)
 
 abbrev μ-loop : tie.MeasureT-loop
 μ-loop store₀ piece₀ out₀ l₀ store piece out l = l .left
+
+-- the fresh record is within its ranges
+fresh-zeros : freshOf Request (replicate 260 0) .0 ≡ served (fresh Request)
+unfolding freshOf
+fresh-zeros = refl
+
+begun : (made : Made) (store : List ℕ) (r : Receiver) → paperMade made store ≡ served (fresh Request) → made ≡ Fresh r → inRange (held r store) ≡ true
+begun made store r e is =
+    let whole : served (held r store) ≡ served (fresh Request) = ap (λ (m : Made). paperMade m store) (sym is) ∙ e in
+    let same : held r store ≡ fresh Request = cc in
+    ap inRange same
 
 -- a piece is asked for within its array, and what came is within that
 asked-in : (c : tie.After-wanted Inv-loop μ-loop) → c .wanted .result ≤ length (c .before .loop .piece)
@@ -75,6 +97,12 @@ module _ (c : tie.Else2 Inv-loop μ-loop) where
         listed .before .before .before .before .if1 .left,
       )
 
+  ranged : inRange (held (listed .list-piece .result .listing .receiver) (listed .list-piece .last .1 .0)) ≡ true
+  ranged =
+      let ok : listed .list-piece .result .ok ≡ true = not-false (listed .list-piece .result .ok) (c .if2 .left) in
+      ap (λ (p : Progress). inRange (p .holds)) (listed .list-piece .ensures .1 ok)
+      ∙ range-kept (held (at .loop .l .receiver) (at .loop .store)) (map byte (take (read .read-some .result) (piece read))) (at .loop .inv .3)
+
 -- the last line is within the room
 last-in : (w : Written) (text room after : List ℕ) (n : ℕ) → w ≡ Done n → (paperWritten w, after) ≡ emit text room → length after ≡ length room
     → n ≤ length after
@@ -104,7 +132,15 @@ main-spec =
     (λ c. search needs)
     (λ c. search needs)
     (λ c κs. search needs)
-    (λ c. (c .before .before .before .before .before .fresh .kept .1 .0, refl, refl))
+    (λ c.
+    let f = c .before .before .before .before .before .fresh in
+    let r = c .before .before .fresh2 .given in (
+      f .kept .1 .0,
+      refl,
+      refl,
+      ap (λ (l : Listing). inRange (held (l .receiver) (f .last .1 .0))) (c .begin .ensures)
+          ∙ begun (f .result) (f .last .1 .0) (r .0 .0) (ap (λ (x : Answered Record × List ℕ). x .0) (f .ensures) ∙ fresh-zeros) (r .1),
+    ))
     (λ c κs. search needs)
     asked-in
     (λ c. sym (asked (c .before)))
@@ -115,7 +151,11 @@ main-spec =
     (λ c. search needs)
     (λ c κs.
     let r = c .before .before .before .before .before in
-    omega (arith, length-take-le (r .read-some .result) (piece r) (within r), came r, r .before .before .wanted .ensures))
+    let l = r .before .before .before .loop in (
+      omega (arith, length-take-le (r .read-some .result) (piece r) (within r), came r, r .before .before .wanted .ensures),
+      omega (arith, l .inv .2),
+      l .inv .3,
+    ))
     (λ c. search needs)
     shown-in
     (λ c. sym (length-take-le _ _ (shown-in (c .before))))
@@ -126,7 +166,7 @@ main-spec =
     let e = c .before .before .before in
     let l = at e .loop in
     let f = listed e .list-piece in
-    (f .kept .1 .0 ∙ l .inv .0, whole (read e), f .kept .1 .1 .1 .0 ∙ l .inv .2))
+    (f .kept .1 .0 ∙ l .inv .0, whole (read e), f .kept .1 .1 .1 .0 ∙ l .inv .2, ranged e))
     (λ c. search needs)
     (λ c κs. search needs)
     (λ c. search needs)
