@@ -7,7 +7,7 @@ use mathlib.Core.Path.{_≡_, refl, sym, ap, _∙_}
 use mathlib.Core.Bool.{true}
 use mathlib.Core.List.{List, _++_, map}
 use lib.ListN.{length, take, drop, replicate, length-append, length-drop}
-use lib.Seq.{length-take-le}
+use lib.Seq.{length-take-le, take-all}
 use Rattle.refusal.specs.Refusals.{Answered, served}
 use Rattle.refusal.specs.Room.{emit}
 use Rattle.refusal.proofs.Room.{served-within}
@@ -40,11 +40,12 @@ fresh-zeros : freshOf Request (replicate 260 0) .0 ≡ served (fresh Request)
 unfolding freshOf
 fresh-zeros = refl
 
-begun : (made : Made) (store : List ℕ) (r : Receiver) → paperMade made store ≡ served (fresh Request) → made ≡ Fresh r → inRange (held r store) ≡ true
-begun made store r e is =
-    let whole : served (held r store) ≡ served (fresh Request) = ap (λ (m : Made). paperMade m store) (sym is) ∙ e in
-    let same : held r store ≡ fresh Request = cc in
-    ap inRange same
+begun : (made : Made) (store : List ℕ) (r : Receiver) → length store ≡ 260 → paperMade made store ≡ served (fresh Request) → made ≡ Fresh r
+    → inRange (held r store) ≡ true
+begun made store r long e is =
+    let whole : served (held r (take 260 store)) ≡ served (fresh Request) = ap (λ (m : Made). paperMade m store) (sym is) ∙ e in
+    let same : held r (take 260 store) ≡ fresh Request = cc in
+    ap (λ (s : List ℕ). inRange (held r s)) (sym (take-all 260 store (omega arith))) ∙ ap inRange same
 
 -- a piece is asked for within its array, and what came is within that
 asked-in : (c : tie.After-wanted Inv-loop μ-loop) → c .wanted .result ≤ length (c .before .loop .piece)
@@ -139,7 +140,7 @@ main-spec =
       refl,
       refl,
       ap (λ (l : Listing). inRange (held (l .receiver) (f .last .1 .0))) (c .begin .ensures)
-          ∙ begun (f .result) (f .last .1 .0) (r .0 .0) (ap (λ (x : Answered Record × List ℕ). x .0) (f .ensures) ∙ fresh-zeros) (r .1),
+          ∙ begun (f .result) (f .last .1 .0) (r .0 .0) (f .kept .1 .0) (ap (λ (x : Answered Record × List ℕ). x .0) (f .ensures) ∙ fresh-zeros) (r .1),
     ))
     (λ c κs. search needs)
     asked-in
