@@ -1,1 +1,1 @@
-// No code: specs/ has the scope's twelve examples as rows of one table, and proofs/ the theorem that every row holds.
+// No code: specs/ has document 01's twelve examples as rows of one table, and proofs/ the theorem that every row holds.

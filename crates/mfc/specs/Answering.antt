@@ -72,12 +72,12 @@ valueOf (Baud rate) = rate
 valueOf ProductType = 0
 valueOf (DeviceError code) = code
 
--- "answered, 0 or 1"; 0 where it is not reported
+-- bit 7 as it is answered, 0 or 1; 0 where it is not reported
 abbrev pub bitOf : Option Bool → ℕ
 bitOf none = 0
 bitOf (some b) = cond b 1 0
 
--- "read: refusal 15, the code in `code`": the refusal beside which bit 7 is reported
+-- the code that 15 carries: the refusal beside which bit 7 is reported
 abbrev pub codeOf : Numbered → Option Bool → ℕ
 codeOf n none = 0
 codeOf n (some b) = carriedBy n

@@ -1,5 +1,5 @@
--- The C interface, I2C commands: "Codes of the I2C writers are 01's numbers; one that 01 does not list is 12. An argument beside a code
--- that takes none is not looked at."
+-- The C interface, I2C commands: the codes are 01's numbers, and one that 01 does not list is 12. An argument beside a code that takes none
+-- is not looked at.
 use Prim.Native.Nat.{ℕ}
 use mathlib.Core.Bool.{cond}
 use mathlib.Core.List.{List, [], _∷_}

@@ -1,4 +1,4 @@
-// The refusals of the serial and I2C interfaces: one named case for each number of the scope's table.
+// The refusals of the serial and I2C interfaces: one named case for each number of document 01's table.
 ghost use mathlib.Core.Path.{_≡_};
 ghost use Rattle.refusal.specs.Refusals.{numberOf};
 
@@ -42,7 +42,7 @@ pub enum Refusal {
     BadScale,
 }
 
-// The number of a refusal in the scope's table.
+// The number of a refusal in document 01's table.
 pub fn number(r: Refusal) -> u8
     ensures { λ n. ⌜ n ≡ numberOf r ⌝ }
 {

@@ -55,7 +55,7 @@ abbrev pub isSize : Option ℕ → ℕ → Bool
 isSize none n = true
 isSize (some size) n = eqb n size
 
--- 01, Commands of the SFC6 family: "Refusal 14 holds if the request went to 255, address or command differs, the error code is
+-- 01, Commands of the SFC6 family: "Refusal 14 holds if the request went to 255, address or command differs [..], the error code is
 -- non-zero and L is not 0, or the code is zero and the data length is not the table's"
 unfoldable pub foreign : ℕ → Row → List ℕ → Bool
 foreign address r body =

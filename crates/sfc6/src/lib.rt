@@ -357,7 +357,7 @@ fn check_row(address: u8, asked: Row) -> Checked
     if let Checked::Refused(r) = check_value(address, value) {
         return Checked::Refused(r);
     }
-    // No request of the table has so many data bytes; the scope asks for the test in both writers.
+    // No request of the table has so many data bytes; document 01 asks for the test in both writers.
     if 255 < data_size(asked) {
         return Checked::Refused(Refusal::BodyTooLong);
     }
