@@ -10,11 +10,12 @@ use replies::ReadReply;
 use replies::Reply;
 use sfc6::Request;
 use sfc6::Typed;
+use shdlc::Checked;
 ghost use mathlib.Core.Path.{_≡_};
-ghost use mathlib.Core.Bool.{false, cond};
+ghost use mathlib.Core.Bool.{false, cond, _||_};
+ghost use lib.Dec.{ltb};
 ghost use Prim.Native.Nat.{_%_, _≤_};
-ghost use Rattle.refusal.specs.Refusals.{paper, served, refused};
-ghost use Rattle.sfc6.specs.Requests.{checkRequest};
+ghost use Rattle.refusal.specs.Refusals.{paper, refused};
 ghost use Rattle.replies.specs.Replies.{replyTo, kindOf};
 ghost use Rattle.replies.specs.Paper.{paperRead};
 ghost use Rattle.mfc.specs.Answering.{replyAt, valueOf, replyIn, writeAnswer, readAnswer};
@@ -35,8 +36,8 @@ fn low16(n: u32) -> u16
 
 // The reply of its number, 0 to 15, and of a value that it holds.
 fn reply_of(number: u8, n: u32) -> Reply
-    requires { ⌜ tooWide number n ≡ false ⌝ }
-    ensures { λ r. ⌜ (number ≤ 15 → r ≡ replyAt number n) ⌝ }
+    requires { ⌜ (number ≤ 15) × (tooWide number n ≡ false) ⌝ }
+    ensures { λ r. ⌜ r ≡ replyAt number n ⌝ }
 {
     match number {
         0 => Reply::Acknowledged,
@@ -155,10 +156,16 @@ fn is_too_wide(number: u8, n: u32) -> bool
     }
 }
 
-// Why such a reply is not written: 14, where it is not the one expected, comes before 12.
+// Why such a reply, or one over 15, is not written.
 fn refusal_of(address: u8, request: Request, number: u8) -> Refusal
     ensures { λ r. ⌜ refused (paper r) ≡ refusalOf address request number ⌝ }
 {
+    if let Checked::Refused(r) = sfc6::check_request(address, request) {
+        return r;
+    }
+    if 15 < number {
+        return Refusal::ForeignReply;
+    }
     if address == 255 {
         return Refusal::ForeignReply;
     }
@@ -171,7 +178,17 @@ fn refusal_of(address: u8, request: Request, number: u8) -> Refusal
     Refusal::ForeignReply
 }
 
-// Writes the frame of the reply to a request that passes its own checks.
+// Whether a number and a value are those of no reply.
+fn is_unsayable(number: u8, n: u32) -> bool
+    ensures { λ r. ⌜ r ≡ (ltb 15 number || tooWide number n) ⌝ }
+{
+    if 15 < number {
+        return true;
+    }
+    is_too_wide(number, n)
+}
+
+// Writes the frame of the reply to a request.
 fn write_known(
     address: u8,
     request: Request,
@@ -181,13 +198,9 @@ fn write_known(
     bit7: u8,
     out: &mut [u8],
 ) -> MfcWritten
-    requires { ⌜ checkRequest address request ≡ served (address, request) ⌝ }
     ensures { λ r. ⌜ (r, now (out .exit)) ≡ writeKnown address request reply n (now (text .entry)) bit7 (now (out .entry)) ⌝ }
 {
-    if 15 < reply {
-        return not_written(Refusal::ForeignReply);
-    }
-    if is_too_wide(reply, n) {
+    if is_unsayable(reply, n) {
         return not_written(refusal_of(address, request, reply));
     }
     of_written(replies::write_reply(address, request, reply_of(reply, n), text, bit7 != 0, out))
@@ -212,7 +225,7 @@ pub extern "C" fn mfc_write_reply(
 ) -> MfcWritten
     ensures { λ r. ⌜ (r, now (out .exit)) ≡ writeAnswer address request value reply «reply_value» (now (text .entry)) bit7 (now (out .entry)) ⌝ }
 {
-    match sfc6::request_of(address, place(request), value) {
+    match sfc6::request_of(place(request), value) {
         Typed::Refused(r) => not_written(r),
         Typed::Known(asked) => write_known(address, asked, reply, reply_value, text, bit7, out),
     }
@@ -281,7 +294,7 @@ fn of_read(r: ReadReply) -> MfcReply
 pub extern "C" fn mfc_read_reply(address: u8, request: u8, value: u32, body: &[u8]) -> MfcReply
     ensures { λ r. ⌜ r ≡ readAnswer address request value (now (body .entry)) ⌝ }
 {
-    match sfc6::request_of(address, place(request), value) {
+    match sfc6::request_of(place(request), value) {
         Typed::Refused(r) => not_read(r),
         Typed::Known(asked) => of_read(replies::read_reply(address, asked, body)),
     }

@@ -26,7 +26,7 @@ use Rattle.sfc6.specs.Commands.{row, requestAt, finite, member, bauds, o
 use Rattle.sfc6.specs.Requests.{requestChecks, checkRequest, dataOf, bodyOf, frameToWrite, writeRequest}
 use Rattle.sfc6.specs.Rounds.{from}
 use Rattle.sfc6.specs.Paper.{paperPassed}
-use Rattle.sfc6.proofs.Checks.{passed-value, passed-request}
+use Rattle.sfc6.proofs.Checks.{passed-value}
 use Rattle.sfc6.proofs.Floats.{nan-or-not}
 use Rattle.sfc6.proofs.Table.{NoneBelow, request-last}
 use Rattle.sfc6.proofs.Order.{never, first-refuses, then-more}
@@ -100,14 +100,6 @@ module _ {A : Type 0} (a : A) (n : ℕ) {c : Checked} where
       go true u = refl
       go false true = refl
       go false false = refl
-
--- a request that passes its checks carries a byte where it sets an address
-pub address-byte : (address place n : ℕ) (c : Checked) → Says address (requestAt place n) c → c ≡ Good → place ≡ 17 → n < 256
-unfolding row
-address-byte address place n c is good e =
-    let p = passed-request address (requestAt place n) (sym is ∙ ap (paperPassed (address, requestAt place n)) good) .0 in
-    let range : ltb 254 n ≡ false = sym (ap (λ (k : ℕ). outOfRange (row (requestAt k n) .value)) e) ∙ p in
-    omega (arith, ltb-false 254 n range)
 
 -- a frame that stands at the start of a room that holds it, one that is copied there, and one that does not fit
 module _ (body room : List ℕ) (n : ℕ) (long : n ≡ length (frameOf body)) where

@@ -1,8 +1,8 @@
 -- A request: its own refusals, its bytes on the wire, and its writer. 01, Commands of the SFC6 family and Refusal numbers.
 use Prim.Native.Nat.{ℕ}
-use mathlib.Core.Bool.{Bool, cond}
+use mathlib.Core.Bool.{Bool, cond, _&&_}
 use mathlib.Core.List.{List, [], _∷_, _++_}
-use lib.Dec.{ltb}
+use lib.Dec.{ltb, eqb}
 use lib.ListN.{length}
 use lib.Ieee.{binary32, toBits}
 use Rattle.refusal.specs.Refusals.{Numbered, number, Answered, served, refused, inOrder}
@@ -28,10 +28,10 @@ requestChecks address request =
 unfoldable pub checkRequest : ℕ → Request → Answered (ℕ × Request)
 checkRequest address request = inOrder (requestChecks address request) (address, request)
 
--- a request by its number in the table's order and the number that it carries: row 11, "not in the table", for a number over 20, then
--- its own refusals
-unfoldable pub numbered : ℕ → ℕ → ℕ → Answered Request
-numbered address place n = inOrder ((ltb 20 place, number 11) ∷ requestChecks address (requestAt place n)) (requestAt place n)
+-- a request by its number in the table's order and the number that it carries: row 11, "not in the table", for a number over 20; row 12,
+-- "a value out of its range", for an address to be set, the request 17, that is no byte
+unfoldable pub numbered : ℕ → ℕ → Answered Request
+numbered place n = inOrder ((ltb 20 place, number 11) ∷ (eqb place 17 && ltb 255 n, number 12) ∷ []) (requestAt place n)
 
 -- "Sub is the first data byte."
 abbrev pub subBytes : Subcommand → List ℕ

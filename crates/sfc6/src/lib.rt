@@ -9,7 +9,7 @@ ghost use mathlib.Core.Path.{_≡_};
 ghost use mathlib.Core.Logic.{_⊎_};
 ghost use mathlib.Core.List.{[], _∷_, _++_};
 ghost use Prim.Native.Nat.{ℕ, _+_, _-_, _/_, _%_, _≤_, _<_, min};
-ghost use mathlib.Core.Bool.{cond};
+ghost use mathlib.Core.Bool.{cond, _&&_};
 ghost use lib.Dec.{ltb, eqb};
 ghost use lib.ListN.{length, take, drop};
 ghost use lib.Ieee.{binary32, toBits, ofBits};
@@ -662,15 +662,25 @@ fn check_at(address: u8, place: usize, n: u32) -> Checked
     }
 }
 
-// The request of its number in the table's order, 0 to 20, and of the number that it carries: 11, then its own 12, 13, 10.
-pub fn request_of(address: u8, place: usize, n: u32) -> Typed
-    ensures { λ r. ⌜ paperTyped r ≡ numbered address place n ⌝ }
+// Whether the number is wider than what the request at a place carries: an address is a byte.
+fn is_wide(place: usize, n: u32) -> bool
+    ensures { λ r. ⌜ r ≡ (eqb place 17 && ltb 255 n) ⌝ }
+{
+    if place != 17 {
+        return false;
+    }
+    255 < n
+}
+
+// The request of its number in the table's order, 0 to 20, and of the number that it carries: 11, then 12 for an address that is no byte.
+pub fn request_of(place: usize, n: u32) -> Typed
+    ensures { λ r. ⌜ paperTyped r ≡ numbered place n ⌝ }
 {
     if LAST < place {
         return Typed::Refused(Refusal::UnknownCommand);
     }
-    if let Checked::Refused(r) = check_at(address, place, n) {
-        return Typed::Refused(r);
+    if is_wide(place, n) {
+        return Typed::Refused(Refusal::OutOfRange);
     }
     Typed::Known(request_at(place, n))
 }
@@ -715,8 +725,10 @@ pub fn append_numbered(
 ) -> Written
     ensures { λ r. ⌜ (paperWritten r, now (buffer .exit)) ≡ appendNumbered (now (buffer .entry)) start address place n ⌝ }
 {
-    let end = room_from(start, buffer.len());
-    write_numbered(address, place, n, &mut buffer[end..])
+    match request_of(place, n) {
+        Typed::Refused(r) => Written::Refused(r),
+        Typed::Known(request) => append_request(buffer, start, address, request),
+    }
 }
 
 // Lays the frames of a polling round one after another from `start` on: the same request to each of the nodes. The first frame that is

@@ -1,28 +1,25 @@
 -- `sfc6::append_numbered` meets its contract. Assumes nothing.
 use borrow.Author.Needs.{needs}
-use Rattle.sfc6.specs.Requests.{writeNumbered}
-use Rattle.sfc6.specs.Rounds.{appendNumbered}
-use Rattle.sfc6.proofs.Writing.{Starts, starts, appended}
+use Rattle.sfc6.proofs.Numbered.{append-none, append-known}
 use Rattle.sfc6.proofs.append_numbered.Statement.{statement}
 use Rattle.sfc6.proofs.append_numbered.Tie as tie
 
-from : (c : tie.After-room-from)
-    → let a = c .before .before .args in Starts (a .buffer .now) (a .start) (c .room-from .result)
-from c = starts _ _ _ (c .room-from .ensures)
-
 pub append-numbered-spec : {M : Type 1} → statement M
-unfolding appendNumbered
 append-numbered-spec =
     tie.close
     (tie.spec
     (λ c κs. search needs)
-    (λ c. from c .0)
-    (λ c. from c .0)
+    (λ c. search needs)
     (λ c. search needs)
     (λ c κs. search needs)
+    (λ c.
+    let q = c .before .before .before in
+    let a = q .before .before .args in
+    append-none (a .address) (a .place) (a .n) (a .buffer .now) (a .start) _ (q .request-of .ensures) (c .before .r .given .1))
     (λ c. search needs)
     (λ c.
     let w = c .before .before in
-    let r = w .before .before in
-    let a = r .before .before .args in
-    appended (a .buffer .now) (a .start) (r .room-from .result) (writeNumbered _ _ _) (from r) (w .write-numbered .ensures)))
+    let r = w .before .before .before in
+    let q = r .before .before in
+    let a = q .before .before .args in
+    append-known (a .address) (a .place) (a .n) (a .buffer .now) (a .start) _ (q .request-of .ensures) (r .request .given .1) (w .append-request .ensures)))

@@ -9,10 +9,10 @@ use Rattle.mfc.proofs.reply.mfc_read_reply.Statement.{statement}
 use Rattle.mfc.proofs.reply.mfc_read_reply.Tie as tie
 
 -- the request of the number given
-asked : (c : tie.After-request-of) → let a = c .before .before .before .args in paperTyped (c .request-of .result) ≡ numbered (a .address) (a .request) (a .value)
+asked : (c : tie.After-request-of) → let a = c .before .before .before .args in paperTyped (c .request-of .result) ≡ numbered (a .request) (a .value)
 asked c =
     let a = c .before .before .before .args in
-    c .request-of .ensures ∙ ap (λ (k : ℕ). numbered (a .address) k (a .value)) (c .before .place .ensures)
+    c .request-of .ensures ∙ ap (λ (k : ℕ). numbered k (a .value)) (c .before .place .ensures)
 
 pub mfc-read-reply-spec : {M : Type 1} → statement M
 mfc-read-reply-spec =
@@ -28,8 +28,8 @@ mfc-read-reply-spec =
     (λ c.
     let r = c .before .before in
     let q = r .before .before in
-    read-refused _ _ _ (asked q) (q .before .before .before .args .body .now) (r .r .given .1) (c .not-read .ensures))
+    read-refused _ _ _ _ (asked q) (q .before .before .before .args .body .now) (r .r .given .1) (c .not-read .ensures))
     (λ c.
     let r = c .before .before .before in
     let q = r .before .before in
-    read-known _ _ _ (asked q) (q .before .before .before .args .body .now) (r .asked .given .1) (c .before .read-reply .ensures) (c .of-read .ensures)))
+    read-known _ _ _ _ (asked q) (q .before .before .before .args .body .now) (r .asked .given .1) (c .before .read-reply .ensures) (c .of-read .ensures)))

@@ -1,6 +1,6 @@
 -- `mfc::reply::refusal_of` meets its contract. Assumes nothing.
 use borrow.Author.Needs.{needs}
-use borrow.Author.Tests.{eq-eqb, ne-eqb}
+use Rattle.mfc.proofs.Replying.{refused-first, refused-above, refused-to-all, refused-error, refused-kind, refused-wide}
 use Rattle.mfc.proofs.reply.refusal_of.Statement.{statement}
 use Rattle.mfc.proofs.reply.refusal_of.Tie as tie
 
@@ -8,12 +8,28 @@ pub refusal-of-spec : {M : Type 1} → statement M
 refusal-of-spec =
     tie.close
     (tie.spec
-    (λ c. rw (eq-eqb _ _ (c .if1 .taken)))
-    (λ c. rw (ne-eqb _ _ (c .before .if1 .left), eq-eqb _ _ (c .if2 .taken)))
+    (λ c κs. search needs)
+    (λ c. search needs)
+    (λ c. refused-first _ _ _ (c .before .before .before .check-request .ensures) (c .before .r .given .1))
+    (λ c. search needs)
+    (λ c. refused-above _ _ _ (c .before .before .before .check-request .ensures) (c .before .enum-told .given .1) (c .if1 .taken))
+    (λ c.
+    let e = c .before in
+    refused-to-all _ _ _ (e .before .before .before .check-request .ensures) (e .before .enum-told .given .1) (e .if1 .left) (c .if2 .taken))
+    (λ c.
+    let o = c .before in
+    let e = o .before in
+    refused-error _ _ _ (e .before .before .before .check-request .ensures) (e .before .enum-told .given .1) (e .if1 .left) (o .if2 .left) (c .if3 .taken))
     (λ c κs. search needs)
     (λ c.
-    let e = c .before .before in
-    rw (ne-eqb _ _ (e .before .if1 .left), ne-eqb _ _ (e .if2 .left), ← c .before .expected .ensures, eq-eqb _ _ (c .if3 .taken)))
+    let p = c .before .before in
+    let o = p .before in
+    let e = o .before in
+    refused-wide _ _ _ (e .before .before .before .check-request .ensures) (e .before .enum-told .given .1) (e .if1 .left) (o .if2 .left) (p .if3 .left)
+    (c .before .expected .ensures) (c .if4 .taken))
     (λ c.
-    let e = c .before .before in
-    rw (ne-eqb _ _ (e .before .if1 .left), ne-eqb _ _ (e .if2 .left), ← c .before .expected .ensures, ne-eqb _ _ (c .if3 .left))))
+    let p = c .before .before in
+    let o = p .before in
+    let e = o .before in
+    refused-kind _ _ _ (e .before .before .before .check-request .ensures) (e .before .enum-told .given .1) (e .if1 .left) (o .if2 .left) (p .if3 .left)
+    (c .before .expected .ensures) (c .if4 .left)))
