@@ -1,12 +1,13 @@
 /* Frames, requests and replies of SFC6 mass flow controllers on SHDLC, words and commands of
- * two sensor families on I2C, and scaled readings. No function keeps state or a pointer, or
- * allocates. Each takes any numbers and any bytes.
+ * two sensor families on I2C, scaled readings, and the handover board. No function keeps state
+ * or a pointer, or allocates. Each takes any numbers and any bytes.
  *
  * Compile with -Wconversion: C cuts a number that is too wide for its parameter, and address
  * 256 would be sent to 0.
  *
  * A slice is a pointer and a length. A pointer may be NULL only with length 0, and the buffers
- * lent to one call do not overlap. The length of a slice of uint16_t is in words.
+ * lent to one call do not overlap. The length of a slice of uint16_t is in words, that of a
+ * slice of mfc_entry in entries.
  *
  * A result is a number, or a struct whose first field is the number of a refusal, 0 for none.
  * Every other field is 0 where nothing is said of it. A refusal leaves all lent buffers as they
@@ -20,9 +21,13 @@
  *
  * The value of a request or a reply is a number, a float by its bits. Beside a request or a
  * reply that carries none it is not looked at. In a reply FFFFFFFF hex is an invalid reading,
- * 7F800000 plus infinity and FF800000 minus infinity. */
+ * 7F800000 plus infinity and FF800000 minus infinity.
+ *
+ * A handover board is a table of MFC_BOARD_PLACES entries that the caller keeps from call to
+ * call, all of them zeros at the start. It has an entry for each valve and each temporary
+ * calibration that was opened and is not yet closed, with its polls left. */
 
-/* Made by tools/header of crates/mfc/src: change it there. */
+/* Made by tools/header of crates/mfc/src and the crates below it: change it there. */
 #ifndef MFC_H
 #define MFC_H
 
@@ -48,14 +53,17 @@ enum {
     /* The start value of the CRC of liquid sensors. */
     MFC_START_LIQUID = 0x00,
     /* The start value of the CRC of SFC6. */
-    MFC_START_SFC6 = 0xFF
+    MFC_START_SFC6 = 0xFF,
+    /* The places of a handover board's table. */
+    MFC_BOARD_PLACES = 32
 };
 
 /* Refusals. */
 enum {
     /* lent room is less than this answer needs. */
     MFC_REFUSAL_NO_ROOM = 1,
-    /* receiver record outside its ranges. */
+    /* receiver record outside its ranges; a board's table with an entry out of range, or with a
+     * node and kind twice. */
     MFC_REFUSAL_BAD_RECORD = 2,
     /* 7D not followed by 5E, 5D, 31 or 33, or last in the stretch. */
     MFC_REFUSAL_BAD_ESCAPE = 3,
@@ -89,7 +97,9 @@ enum {
     /* a word's CRC wrong; the first such word's index, from 0. */
     MFC_REFUSAL_WRONG_CRC = 17,
     /* scale factor outside 1 to 32,767. */
-    MFC_REFUSAL_BAD_SCALE = 18
+    MFC_REFUSAL_BAD_SCALE = 18,
+    /* a new entry is wanted and all 32 places of the board are held. */
+    MFC_REFUSAL_BOARD_FULL = 19
 };
 
 /* Kinds of receivers. */
@@ -167,6 +177,20 @@ enum {
     MFC_LIQUID_TEMPERATURE = 0xF3,
     MFC_LIQUID_SUPPLY = 0xF5,
     MFC_LIQUID_RESET = 0xFE
+};
+
+/* Buses. */
+enum {
+    MFC_BUS_SERIAL = 0,
+    MFC_BUS_I2C = 1
+};
+
+/* Kinds of entries of a handover board. */
+enum {
+    /* A valve that 3FEF has shut. */
+    MFC_ENTRY_VALVE = 1,
+    /* A temporary calibration, by command 46. */
+    MFC_ENTRY_CALIBRATION = 2
 };
 
 /* What a writer answers. */
@@ -249,6 +273,26 @@ typedef struct {
     /* The reading in the unit. */
     float value;
 } mfc_quantity;
+
+/* A place of the handover board's table. In a free place all numbers are 0. */
+typedef struct {
+    /* 0 for a free place, or one of MFC_ENTRY_.. */
+    uint8_t kind;
+    /* One of MFC_BUS_.. */
+    uint8_t bus;
+    /* 0 to 254 on the serial bus, 0 to 127 on I2C. */
+    uint8_t address;
+    /* The polls left; 0 where the entry is due. */
+    uint16_t left;
+} mfc_entry;
+
+/* What listing answers: the refusal's number, 0 for none, and how many entries there are. */
+typedef struct {
+    /* The refusal's number, 0 for none. */
+    uint8_t refusal;
+    /* The entries listed. */
+    size_t count;
+} mfc_listed;
 
 /* The checksum of the n bytes of a body before it: 255 minus their sum modulo 256. It refuses
  * nothing. */
@@ -361,6 +405,51 @@ mfc_thousandths mfc_scaled(int16_t raw, int16_t offset, int32_t scale);
 
 /* (raw - offset) / scale in single precision. Refusal 18 for a scale outside 1 to 32,767. */
 mfc_quantity mfc_scaled_float(int16_t raw, int16_t offset, int32_t scale);
+
+/* Opens the entry of a node and kind for a lease of 1 to 65,535 polls, or renews its lease.
+ * Refusals, in their order: 1 where the table has not MFC_BOARD_PLACES places; 2 where an entry
+ * of it is out of range, or the same node and kind stands in it twice; 12 where bus or kind is
+ * none, or the address or the lease is out of range; 19 where the entry is new and all places
+ * are held. */
+uint8_t mfc_board_open(mfc_entry *table, size_t places, uint8_t bus, uint8_t address,
+                       uint8_t kind, uint32_t lease);
+
+/* Closes the entry of a node and kind; where there is none, nothing is done. Refusals, in their
+ * order: 1, 2, 12. */
+uint8_t mfc_board_close(mfc_entry *table, size_t places, uint8_t bus, uint8_t address,
+                        uint8_t kind);
+
+/* A node has restarted: both its entries are closed. Refusals, in their order: 1, 2, 12. */
+uint8_t mfc_board_restart(mfc_entry *table, size_t places, uint8_t bus, uint8_t address);
+
+/* One poll: it takes one from every lease above 0. An entry with 0 left is due, and stays so
+ * until it is closed or renewed. Refusals, in their order: 1, 2. */
+uint8_t mfc_board_poll(mfc_entry *table, size_t places);
+
+/* Lists the entries by bus (serial first), address and kind (valve first) at the start of the
+ * room, and counts them; MFC_BOARD_PLACES places hold any list. The table is only read.
+ * Refusals, in their order: 1 and 2 as for mfc_board_open; 1 where the room has fewer places
+ * than there are entries. */
+mfc_listed mfc_board_list(const mfc_entry *table, size_t places,
+                          mfc_entry *entries, size_t room);
+
+/* To be called after every reply that was read: the address and the request's number that were
+ * asked, and the refusal that mfc_read_reply answered. An accepted volatile calibration
+ * (command 46) opens the calibration entry of the address for a lease of polls, an accepted set
+ * calibration (45) closes it; all else concerns no entry, changes nothing and is answered 0
+ * where the table is good. Refusals, in their order: 1, 2, 12 (for a request over 20; for the
+ * address where an entry is to be opened or closed, for the lease where one is to be opened),
+ * 19. */
+uint8_t mfc_board_reply(mfc_entry *table, size_t places, uint8_t address, uint8_t request,
+                        uint8_t refusal, uint32_t lease);
+
+/* To be called after every command that an SFC6 on I2C has acknowledged, with its code: 3FEF
+ * opens the valve entry of the address for a lease of polls, 3F6E closes it, the other codes of
+ * MFC_SFC6_.. concern no entry. Refusals, in their order: 1, 2, 12 (for any other code; for the
+ * address where an entry is to be opened or closed, for the lease where one is to be opened),
+ * 19. */
+uint8_t mfc_board_acknowledged(mfc_entry *table, size_t places, uint8_t address, uint16_t code,
+                               uint32_t lease);
 
 #ifdef __cplusplus
 }

@@ -130,6 +130,7 @@ fn carried(r: Refusal) -> usize
         Refusal::BadWordCount => 0,
         Refusal::WrongCrc(index) => index,
         Refusal::BadScale => 0,
+        Refusal::BoardFull => 0,
     }
 }
 

@@ -1,13 +1,13 @@
 // The C interface: numbers and byte slices in and out, and no logic of its own. tools/header makes host/include/mfc.h of these files;
 // its first comment is the one that follows.
 
-// Frames, requests and replies of SFC6 mass flow controllers on SHDLC, words and commands of two sensor families on I2C, and scaled
-// readings. No function keeps state or a pointer, or allocates. Each takes any numbers and any bytes.
+// Frames, requests and replies of SFC6 mass flow controllers on SHDLC, words and commands of two sensor families on I2C, scaled
+// readings, and the handover board. No function keeps state or a pointer, or allocates. Each takes any numbers and any bytes.
 //
 // Compile with -Wconversion: C cuts a number that is too wide for its parameter, and address 256 would be sent to 0.
 //
 // A slice is a pointer and a length. A pointer may be NULL only with length 0, and the buffers lent to one call do not overlap. The
-// length of a slice of uint16_t is in words.
+// length of a slice of uint16_t is in words, that of a slice of mfc_entry in entries.
 //
 // A result is a number, or a struct whose first field is the number of a refusal, 0 for none. Every other field is 0 where nothing is
 // said of it. A refusal leaves all lent buffers as they were, save that a receiver's record goes on past an item that is refused with 3
@@ -19,7 +19,11 @@
 //
 // The value of a request or a reply is a number, a float by its bits. Beside a request or a reply that carries none it is not looked at.
 // In a reply FFFFFFFF hex is an invalid reading, 7F800000 plus infinity and FF800000 minus infinity.
+//
+// A handover board is a table of MFC_BOARD_PLACES entries that the caller keeps from call to call, all of them zeros at the start. It has
+// an entry for each valve and each temporary calibration that was opened and is not yet closed, with its polls left.
 pub mod answers;
+pub mod boards;
 pub mod readings;
 pub mod receivers;
 pub mod reply;

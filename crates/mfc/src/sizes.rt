@@ -20,3 +20,6 @@ pub const START_LIQUID: u8 = LIQUID_START;
 
 // The start value of the CRC of SFC6.
 pub const START_SFC6: u8 = SFC6_START;
+
+// The places of a handover board's table.
+pub const BOARD_PLACES: usize = 32;

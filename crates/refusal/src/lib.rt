@@ -6,7 +6,7 @@ ghost use Rattle.refusal.specs.Refusals.{numberOf};
 pub enum Refusal {
     // 1: lent room is less than this answer needs.
     NoRoom,
-    // 2: receiver record outside its ranges.
+    // 2: receiver record outside its ranges; a board's table with an entry out of range, or with a node and kind twice.
     BadRecord,
     // 3: 7D not followed by 5E, 5D, 31 or 33, or last in the stretch.
     BadEscape,
@@ -40,6 +40,8 @@ pub enum Refusal {
     WrongCrc(usize),
     // 18: scale factor outside 1 to 32,767.
     BadScale,
+    // 19: a new entry is wanted and all 32 places of the board are held.
+    BoardFull,
 }
 
 // The number of a refusal in document 01's table.
@@ -65,5 +67,6 @@ pub fn number(r: Refusal) -> u8
         Refusal::BadWordCount => 16,
         Refusal::WrongCrc(_) => 17,
         Refusal::BadScale => 18,
+        Refusal::BoardFull => 19,
     }
 }

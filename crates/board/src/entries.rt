@@ -1,0 +1,241 @@
+// A node, an entry as C lends it, and the 32 places of a table with their ranges.
+ghost use mathlib.Core.Path.{_≡_};
+ghost use Prim.Native.Nat.{_<_, _≤_, _+_};
+ghost use lib.ListN.{set, getD, drop};
+ghost use Rattle.board.specs.Entries.{busNumber, kindNumber, free, isFree, has, isKind, isNode, isClear, entryInRange, empty, placeOf, valid};
+ghost use Rattle.board.specs.Private.{nodePlace, isAmong};
+
+pub enum Bus {
+    Serial,
+    I2c,
+}
+
+// What an entry stands for.
+pub enum Kind {
+    // A valve that 3FEF has shut.
+    Valve,
+    // A temporary calibration, by command 46.
+    Calibration,
+}
+
+// A node: serial addresses are 0 to 254, those of I2C 0 to 127.
+pub struct Node {
+    pub bus: Bus,
+    pub address: u8,
+}
+
+// A place of the handover board's table. In a free place all numbers are 0.
+#[repr(C)]
+pub struct Entry {
+    // 0 for a free place, or one of MFC_ENTRY_..
+    pub kind: u8,
+    // One of MFC_BUS_..
+    pub bus: u8,
+    // 0 to 254 on the serial bus, 0 to 127 on I2C.
+    pub address: u8,
+    // The polls left; 0 where the entry is due.
+    pub left: u16,
+}
+
+// The 32 places by value.
+pub struct Places {
+    pub rows: [Entry; 32],
+}
+
+// The numbers that stand for a bus and a kind in an entry; kind 0 is a free place.
+const SERIAL: u8 = 0;
+
+const I2C: u8 = 1;
+
+const VALVE: u8 = 1;
+
+const CALIBRATION: u8 = 2;
+
+pub(crate) fn bus_number(bus: Bus) -> u8
+    ensures { λ r. ⌜ r ≡ busNumber bus ⌝ }
+{
+    match bus {
+        Bus::Serial => SERIAL,
+        Bus::I2c => I2C,
+    }
+}
+
+pub(crate) fn kind_number(kind: Kind) -> u8
+    ensures { λ r. ⌜ r ≡ kindNumber kind ⌝ }
+{
+    match kind {
+        Kind::Valve => VALVE,
+        Kind::Calibration => CALIBRATION,
+    }
+}
+
+pub(crate) fn with(p: Places, i: usize, e: Entry) -> Places
+    requires { ⌜ i < 32 ⌝ }
+    ensures { λ r. ⌜ r .rows ≡ set (p .rows) i e ⌝ }
+{
+    let mut q = p;
+    q.rows[i] = e;
+    q
+}
+
+pub(crate) fn entry_at(p: Places, i: usize) -> Entry
+    requires { ⌜ i < 32 ⌝ }
+    ensures { λ r. ⌜ r ≡ getD (p .rows) i free ⌝ }
+{
+    p.rows[i]
+}
+
+pub(crate) fn free_place() -> Entry
+    ensures { λ r. ⌜ r ≡ free ⌝ }
+{
+    Entry {
+        kind: 0,
+        bus: 0,
+        address: 0,
+        left: 0,
+    }
+}
+
+// The board at the start: 32 free places.
+pub fn no_entries() -> Places
+    ensures { λ r. ⌜ r .rows ≡ empty ⌝ }
+{
+    let e = free_place();
+    let rows = [e; 32];
+    Places { rows: rows }
+}
+
+pub(crate) fn has_numbers(e: Entry, kind: u8, bus: u8, address: u8) -> bool
+    ensures { λ r. ⌜ r ≡ has kind bus address e ⌝ }
+{
+    if e.kind != kind {
+        return false;
+    }
+    if e.bus != bus {
+        return false;
+    }
+    e.address == address
+}
+
+pub(crate) fn is_kind(n: u8) -> bool
+    ensures { λ r. ⌜ r ≡ isKind n ⌝ }
+{
+    if n == VALVE {
+        return true;
+    }
+    n == CALIBRATION
+}
+
+fn is_node(bus: u8, address: u8) -> bool
+    ensures { λ r. ⌜ r ≡ isNode bus address ⌝ }
+{
+    if bus == SERIAL {
+        return address <= 254;
+    }
+    if bus == I2C {
+        return address <= 127;
+    }
+    false
+}
+
+fn is_clear(e: Entry) -> bool
+    ensures { λ r. ⌜ r ≡ isClear e ⌝ }
+{
+    if e.bus != 0 {
+        return false;
+    }
+    if e.address != 0 {
+        return false;
+    }
+    e.left == 0
+}
+
+fn in_range(e: Entry) -> bool
+    ensures { λ r. ⌜ r ≡ entryInRange e ⌝ }
+{
+    if e.kind == 0 {
+        return is_clear(e);
+    }
+    if is_kind(e.kind) {
+        return is_node(e.bus, e.address);
+    }
+    false
+}
+
+// The first place that has these numbers, or 32.
+pub(crate) fn find(p: Places, kind: u8, bus: u8, address: u8) -> usize
+    ensures { λ r. ⌜ r ≡ placeOf (has kind bus address) (p .rows) ⌝ }
+{
+    let mut i = 0;
+    while i < 32 {
+        let e = p.rows[i];
+        if has_numbers(e, kind, bus, address) {
+            return i;
+        }
+        i += 1;
+    }
+    i
+}
+
+// The first free place, or 32.
+pub(crate) fn find_free(p: Places) -> usize
+    ensures { λ r. ⌜ r ≡ placeOf isFree (p .rows) ⌝ }
+{
+    let mut i = 0;
+    while i < 32 {
+        let e = p.rows[i];
+        if e.kind == 0 {
+            return i;
+        }
+        i += 1;
+    }
+    i
+}
+
+fn wide(n: u8) -> usize
+    ensures { λ r. ⌜ (r ≡ n) × (r < 256) ⌝ }
+{
+    n as usize
+}
+
+// A node by a number under 512.
+fn node_place(e: Entry) -> usize
+    ensures { λ r. ⌜ r ≡ nodePlace e ⌝ }
+{
+    wide(e.bus) * 256 + wide(e.address)
+}
+
+// Whether a kind is one of those whose numbers, added up, are this sum.
+fn is_among(sum: u8, kind: u8) -> bool
+    ensures { λ r. ⌜ r ≡ isAmong sum kind ⌝ }
+{
+    if kind == 0 {
+        return false;
+    }
+    if sum == kind {
+        return true;
+    }
+    sum == VALVE + CALIBRATION
+}
+
+// Goes through the places from the last to the first, and keeps for each node the sum of its kinds' numbers.
+pub(crate) fn is_valid(p: Places) -> bool
+    ensures { λ r. ⌜ r ≡ valid (p .rows) ⌝ }
+{
+    let mut seen = [0u8; 512];
+    let mut i = 32;
+    while i > 0 {
+        i -= 1;
+        let e = p.rows[i];
+        if !in_range(e) {
+            return false;
+        }
+        let n = node_place(e);
+        let sum = seen[n];
+        if is_among(sum, e.kind) {
+            return false;
+        }
+        seen[n] = sum + e.kind;
+    }
+    true
+}

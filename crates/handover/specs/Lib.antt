@@ -1,0 +1,2 @@
+-- 02 (i): how the wires feed the board.
+pub mod Wire
