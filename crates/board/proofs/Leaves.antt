@@ -7,10 +7,15 @@ use mathlib.Core.List.{List, [], _∷_}
 use lib.Dec.{leb, ltb, eqb}
 use borrow.Author.Tests.{eq-eqb, ne-eqb, le-leb, lt-leb}
 use Rattle.board.specs.declared.entries.Bus.{Bus}
+use Rattle.board.specs.declared.entries.Kind.{Kind}
 use Rattle.board.specs.declared.entries.Node.{Node}
 use Rattle.board.specs.declared.entries.Entry.{Entry}
-use Rattle.board.specs.Entries.{nodeInRange, free, isFree, has, isKind, isNode, isClear, entryInRange}
+use Rattle.board.specs.declared.survey.Target.{Target}
+use Rattle.board.specs.declared.survey.Found.{Found}
+use Rattle.board.specs.declared.orders.Order.{Order}
+use Rattle.board.specs.Entries.{nodeInRange, busNumber, kindNumber, entryOf, free, isFree, has, isKind, isNode, isClear, entryInRange}
 use Rattle.board.specs.Orders.{leaseInRange, freed, tick}
+use Rattle.board.specs.Private.{nearer, onNumbers, targetOf, noTarget, soughtBy}
 
 module _ (k b a : ℕ) (e : Entry) where
   pub has-kind : (e .kind ≡ k → ⊥) → false ≡ has k b a e
@@ -32,6 +37,43 @@ module _ (k b a : ℕ) (e : Entry) where
   pub freed-stays : {t : Bool} → t ≡ has k b a e → t ≡ false → e ≡ freed (has k b a) e
   unfolding freed
   freed-stays g h = rw (← g, h)
+
+-- a node's entry, whatever its kind
+module _ (b a : ℕ) (e : Entry) {k : ℕ} {t : Bool} (z : k ≡ 1) (g : t ≡ has k b a e) where
+  as-valve : (x : Bool) → t ≡ x → has 1 b a e ≡ x
+  as-valve x h = ap (λ (j : ℕ). has j b a e) (sym z) ∙ sym g ∙ h
+
+  pub freed-valve : {r : Entry} → t ≡ true → r ≡ free → r ≡ freed (onNumbers b a) e
+  unfolding freed onNumbers
+  freed-valve h f = rw (as-valve true h) f
+
+  module _ {k′ : ℕ} {t′ : Bool} (h : t ≡ false) (z′ : k′ ≡ 2) (g′ : t′ ≡ has k′ b a e) where
+    as-calibration : (x : Bool) → t′ ≡ x → has 2 b a e ≡ x
+    as-calibration x h′ = ap (λ (j : ℕ). has j b a e) (sym z′) ∙ sym g′ ∙ h′
+
+    pub freed-calibration : {r : Entry} → t′ ≡ true → r ≡ free → r ≡ freed (onNumbers b a) e
+    unfolding freed onNumbers
+    freed-calibration h′ f = rw (as-valve false h, as-calibration true h′) f
+
+    pub freed-neither : t′ ≡ false → e ≡ freed (onNumbers b a) e
+    unfolding freed onNumbers
+    freed-neither h′ = rw (as-valve false h, as-calibration false h′)
+
+-- an entry and a target by a node and a kind
+module _ (node : Node) (kind : Kind) {k b : ℕ} (f : k ≡ kindNumber kind) (g : b ≡ busNumber (node .bus)) where
+  pub entry-is : (l : ℕ) → record { kind = k; bus = b; address = node .address; left = l } ≡ entryOf node kind l
+  entry-is l = λ i. record { kind = f i; bus = g i; address = node .address; left = l }
+
+  pub target-is : record { kind = k; bus = b; address = node .address } ≡ targetOf node kind
+  target-is = λ i. record { kind = f i; bus = g i; address = node .address }
+
+pub none-sought : {r : Target} (o : Order) → (r .kind ≡ 0) × (r .bus ≡ 0) × (r .address ≡ 0) → soughtBy o ≡ noTarget → r ≡ soughtBy o
+none-sought o e f = (λ i. record { kind = e .0 i; bus = e .1 i; address = e .2 i }) ∙ sym f
+
+pub nearer-is : (later : Found) (e : Entry) (n : ℕ) (k : Target) {t : Bool} {h f : ℕ} → t ≡ has (k .kind) (k .bus) (k .address) e → h ≡ cond {A = ℕ} t n (later .held) → f ≡ cond {A = ℕ} (eqb (e .kind) 0) n (later .free)
+    → record { held = h; free = f } ≡ nearer later e n k
+unfolding nearer
+nearer-is later e n k u v w = λ i. record { held = (v ∙ ap (λ (x : Bool). cond {A = ℕ} x n (later .held)) u) i; free = w i }
 
 module _ (n : ℕ) where
   pub kind-valve : n ≡ 1 → true ≡ isKind n

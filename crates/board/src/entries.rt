@@ -1,9 +1,8 @@
 // A node, an entry as C lends it, and the 32 places of a table with their ranges.
 ghost use mathlib.Core.Path.{_≡_};
-ghost use Prim.Native.Nat.{_<_, _≤_, _+_};
-ghost use lib.ListN.{set, getD, drop};
-ghost use Rattle.board.specs.Entries.{busNumber, kindNumber, free, isFree, has, isKind, isNode, isClear, entryInRange, empty, placeOf, valid};
-ghost use Rattle.board.specs.Private.{nodePlace, isAmong};
+ghost use Prim.Native.Nat.{_<_};
+ghost use lib.ListN.{set, getD};
+ghost use Rattle.board.specs.Entries.{busNumber, kindNumber, free, has, isKind, isClear, empty};
 
 pub enum Bus {
     Serial,
@@ -126,19 +125,7 @@ pub(crate) fn is_kind(n: u8) -> bool
     n == CALIBRATION
 }
 
-fn is_node(bus: u8, address: u8) -> bool
-    ensures { λ r. ⌜ r ≡ isNode bus address ⌝ }
-{
-    if bus == SERIAL {
-        return address <= 254;
-    }
-    if bus == I2C {
-        return address <= 127;
-    }
-    false
-}
-
-fn is_clear(e: Entry) -> bool
+pub(crate) fn is_clear(e: Entry) -> bool
     ensures { λ r. ⌜ r ≡ isClear e ⌝ }
 {
     if e.bus != 0 {
@@ -148,94 +135,4 @@ fn is_clear(e: Entry) -> bool
         return false;
     }
     e.left == 0
-}
-
-fn in_range(e: Entry) -> bool
-    ensures { λ r. ⌜ r ≡ entryInRange e ⌝ }
-{
-    if e.kind == 0 {
-        return is_clear(e);
-    }
-    if is_kind(e.kind) {
-        return is_node(e.bus, e.address);
-    }
-    false
-}
-
-// The first place that has these numbers, or 32.
-pub(crate) fn find(p: Places, kind: u8, bus: u8, address: u8) -> usize
-    ensures { λ r. ⌜ r ≡ placeOf (has kind bus address) (p .rows) ⌝ }
-{
-    let mut i = 0;
-    while i < 32 {
-        let e = p.rows[i];
-        if has_numbers(e, kind, bus, address) {
-            return i;
-        }
-        i += 1;
-    }
-    i
-}
-
-// The first free place, or 32.
-pub(crate) fn find_free(p: Places) -> usize
-    ensures { λ r. ⌜ r ≡ placeOf isFree (p .rows) ⌝ }
-{
-    let mut i = 0;
-    while i < 32 {
-        let e = p.rows[i];
-        if e.kind == 0 {
-            return i;
-        }
-        i += 1;
-    }
-    i
-}
-
-fn wide(n: u8) -> usize
-    ensures { λ r. ⌜ (r ≡ n) × (r < 256) ⌝ }
-{
-    n as usize
-}
-
-// A node by a number under 512.
-fn node_place(e: Entry) -> usize
-    ensures { λ r. ⌜ r ≡ nodePlace e ⌝ }
-{
-    wide(e.bus) * 256 + wide(e.address)
-}
-
-// Whether a kind is one of those whose numbers, added up, are this sum.
-fn is_among(sum: u8, kind: u8) -> bool
-    ensures { λ r. ⌜ r ≡ isAmong sum kind ⌝ }
-{
-    if kind == 0 {
-        return false;
-    }
-    if sum == kind {
-        return true;
-    }
-    sum == VALVE + CALIBRATION
-}
-
-// Goes through the places from the last to the first, and keeps for each node the sum of its kinds' numbers.
-pub(crate) fn is_valid(p: Places) -> bool
-    ensures { λ r. ⌜ r ≡ valid (p .rows) ⌝ }
-{
-    let mut seen = [0u8; 512];
-    let mut i = 32;
-    while i > 0 {
-        i -= 1;
-        let e = p.rows[i];
-        if !in_range(e) {
-            return false;
-        }
-        let n = node_place(e);
-        let sum = seen[n];
-        if is_among(sum, e.kind) {
-            return false;
-        }
-        seen[n] = sum + e.kind;
-    }
-    true
 }

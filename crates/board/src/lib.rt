@@ -3,4 +3,5 @@ pub mod entries;
 pub mod listing;
 pub mod numbers;
 pub mod orders;
+pub mod survey;
 pub mod table;

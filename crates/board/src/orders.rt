@@ -1,23 +1,25 @@
-// The orders to the board, carried out on its 32 places by value.
+// The orders to the board: what each answers, and what it does to the places.
 use crate::entries::Bus;
 use crate::entries::Entry;
 use crate::entries::Kind;
 use crate::entries::Node;
 use crate::entries::Places;
 use crate::entries::bus_number;
-use crate::entries::find;
-use crate::entries::find_free;
 use crate::entries::free_place;
 use crate::entries::has_numbers;
-use crate::entries::is_valid;
 use crate::entries::kind_number;
-use crate::entries::with;
+use crate::survey::Found;
+use crate::survey::Target;
+use crate::survey::find;
+use crate::survey::is_valid;
 use refusal::Refusal;
 ghost use mathlib.Core.Path.{_≡_};
 ghost use mathlib.Core.Bool.{true, _&&_};
-ghost use mathlib.Core.List.{map};
-ghost use Rattle.board.specs.Entries.{nodeInRange, busNumber, kindNumber, has, onNode};
+ghost use Prim.Native.Nat.{_≤_};
+ghost use lib.ListN.{take};
+ghost use Rattle.board.specs.Entries.{nodeInRange, entryOf, has};
 ghost use Rattle.board.specs.Orders.{leaseInRange, orderInRange, opened, freed, tick, done, change, paperAnswer};
+ghost use Rattle.board.specs.Private.{onNumbers, stepOf, steps, polledIn, targetOf, soughtBy, soughtIn, foundIn, Carries, Plans};
 
 // An order to the board.
 pub enum Order {
@@ -45,101 +47,23 @@ pub struct Changed {
     pub places: Places,
 }
 
-fn answered(answer: Answer, p: Places) -> Changed
-    ensures { λ r. ⌜ (r .answer ≡ answer) × (r .places .rows ≡ p .rows) ⌝ }
-{
-    Changed {
-        answer: answer,
-        places: p,
-    }
+// What is done to each of a run of places, polls apart.
+pub enum Step {
+    // This entry stands there.
+    Put(Entry),
+    // An entry with these numbers is closed.
+    Free(Target),
+    // An entry of the node with this bus and address is closed, whatever its kind.
+    FreeNode(u8, u8),
 }
 
-fn open_in(p: Places, node: Node, kind: Kind, lease: u16) -> Changed
-    ensures { λ r. ⌜ (paperAnswer (r .answer), r .places .rows) ≡ opened node kind lease (p .rows) ⌝ }
-{
-    let on = node.bus;
-    let k = kind_number(kind);
-    let b = bus_number(on);
-    let e = Entry {
-        kind: k,
-        bus: b,
-        address: node.address,
-        left: lease,
-    };
-    let i = find(p, k, b, node.address);
-    if i < 32 {
-        return answered(Answer::Done, with(p, i, e));
-    }
-    let j = find_free(p);
-    if j < 32 {
-        return answered(Answer::Done, with(p, j, e));
-    }
-    answered(Answer::Refused(Refusal::BoardFull), p)
-}
-
-fn freed_of(e: Entry, kind: u8, bus: u8, address: u8) -> Entry
-    ensures { λ r. ⌜ r ≡ freed (has kind bus address) e ⌝ }
-{
-    if has_numbers(e, kind, bus, address) {
-        return free_place();
-    }
-    e
-}
-
-// Every entry that has these numbers is closed.
-fn close_in(p: Places, kind: u8, bus: u8, address: u8) -> Places
-    ensures { λ r. ⌜ r .rows ≡ map (freed (has kind bus address)) (p .rows) ⌝ }
-{
-    let mut q = p;
-    let mut i = 0;
-    while i < 32 {
-        let e = p.rows[i];
-        q.rows[i] = freed_of(e, kind, bus, address);
-        i += 1;
-    }
-    q
-}
-
-fn closed_by(p: Places, node: Node, kind: Kind) -> Places
-    ensures { λ r. ⌜ r .rows ≡ map (freed (has (kindNumber kind) (busNumber (node .bus)) (node .address))) (p .rows) ⌝ }
-{
-    let on = node.bus;
-    close_in(p, kind_number(kind), bus_number(on), node.address)
-}
-
-fn restart_in(p: Places, node: Node) -> Places
-    ensures { λ r. ⌜ r .rows ≡ map (freed (onNode node)) (p .rows) ⌝ }
-{
-    let q = closed_by(p, node, Kind::Valve);
-    closed_by(q, node, Kind::Calibration)
-}
-
-fn tick_of(e: Entry) -> Entry
-    ensures { λ r. ⌜ r ≡ tick e ⌝ }
-{
-    let mut left = e.left;
-    if left > 0 {
-        left -= 1;
-    }
-    Entry {
-        kind: e.kind,
-        bus: e.bus,
-        address: e.address,
-        left: left,
-    }
-}
-
-fn poll_in(p: Places) -> Places
-    ensures { λ r. ⌜ r .rows ≡ map tick (p .rows) ⌝ }
-{
-    let mut q = p;
-    let mut i = 0;
-    while i < 32 {
-        let e = p.rows[i];
-        q.rows[i] = tick_of(e);
-        i += 1;
-    }
-    q
+// The answer to an order, and what it does: so many places are polled, and those from one on and before another have a step done.
+pub struct Plan {
+    pub answer: Answer,
+    pub polled: usize,
+    pub from: usize,
+    pub to: usize,
+    pub step: Step,
 }
 
 fn node_in_range(node: Node) -> bool
@@ -183,29 +107,239 @@ fn order_in_range(o: Order) -> bool
     }
 }
 
-fn carry_out(p: Places, o: Order) -> Changed
-    requires { ⌜ orderInRange o ≡ true ⌝ }
-    ensures { λ r. ⌜ (paperAnswer (r .answer), r .places .rows) ≡ done o (p .rows) ⌝ }
+fn freed_of(e: Entry, k: Target) -> Entry
+    ensures { λ r. ⌜ r ≡ freed (has (k .kind) (k .bus) (k .address)) e ⌝ }
+{
+    if has_numbers(e, k.kind, k.bus, k.address) {
+        return free_place();
+    }
+    e
+}
+
+fn freed_on(e: Entry, bus: u8, address: u8) -> Entry
+    ensures { λ r. ⌜ r ≡ freed (onNumbers bus address) e ⌝ }
+{
+    if has_numbers(e, kind_number(Kind::Valve), bus, address) {
+        return free_place();
+    }
+    if has_numbers(e, kind_number(Kind::Calibration), bus, address) {
+        return free_place();
+    }
+    e
+}
+
+pub(crate) fn tick_of(e: Entry) -> Entry
+    ensures { λ r. ⌜ r ≡ tick e ⌝ }
+{
+    let mut left = e.left;
+    if left > 0 {
+        left -= 1;
+    }
+    Entry {
+        kind: e.kind,
+        bus: e.bus,
+        address: e.address,
+        left: left,
+    }
+}
+
+pub(crate) fn stepped(e: Entry, s: Step) -> Entry
+    ensures { λ r. ⌜ r ≡ stepOf s e ⌝ }
+{
+    match s {
+        Step::Put(new) => new,
+        Step::Free(k) => freed_of(e, k),
+        Step::FreeNode(bus, address) => freed_on(e, bus, address),
+    }
+}
+
+fn target_of(node: Node, kind: Kind) -> Target
+    ensures { λ r. ⌜ r ≡ targetOf node kind ⌝ }
+{
+    let on = node.bus;
+    Target {
+        kind: kind_number(kind),
+        bus: bus_number(on),
+        address: node.address,
+    }
+}
+
+fn no_target() -> Target
+    ensures { λ r. ⌜ (r .kind ≡ 0) × (r .bus ≡ 0) × (r .address ≡ 0) ⌝ }
+{
+    Target {
+        kind: 0,
+        bus: 0,
+        address: 0,
+    }
+}
+
+// The entry that is to be opened is looked for.
+pub(crate) fn sought(o: Order) -> Target
+    ensures { λ r. ⌜ r ≡ soughtBy o ⌝ }
 {
     match o {
-        Order::Open(node, kind, lease) => open_in(p, node, kind, lease as u16),
-        Order::Close(node, kind) => answered(Answer::Done, closed_by(p, node, kind)),
-        Order::Restart(node) => answered(Answer::Done, restart_in(p, node)),
-        Order::Poll => answered(Answer::Done, poll_in(p)),
-        Order::Unnamed => answered(Answer::Done, p),
-        Order::Nothing => answered(Answer::Done, p),
+        Order::Open(node, kind, _) => target_of(node, kind),
+        Order::Close(_, _) => no_target(),
+        Order::Restart(_) => no_target(),
+        Order::Poll => no_target(),
+        Order::Unnamed => no_target(),
+        Order::Nothing => no_target(),
     }
+}
+
+// So many places are looked through for it.
+pub(crate) fn sought_in(n: usize, o: Order) -> usize
+    ensures { λ r. ⌜ r ≡ soughtIn n o ⌝ }
+{
+    match o {
+        Order::Open(_, _, _) => n,
+        Order::Close(_, _) => 0,
+        Order::Restart(_) => 0,
+        Order::Poll => 0,
+        Order::Unnamed => 0,
+        Order::Nothing => 0,
+    }
+}
+
+fn refused(why: Refusal) -> Plan
+    ensures { λ r. ⌜ (r .answer ≡ Answer.Refused why) × (r .polled ≡ 0) × (r .from ≡ 0) × (r .to ≡ 0) ⌝ }
+{
+    Plan {
+        answer: Answer::Refused(why),
+        polled: 0,
+        from: 0,
+        to: 0,
+        step: Step::FreeNode(0, 0),
+    }
+}
+
+fn polled(n: usize) -> Plan
+    ensures { λ r. ⌜ (r .answer ≡ Answer.Done) × (r .polled ≡ n) × (r .from ≡ 0) × (r .to ≡ 0) ⌝ }
+{
+    Plan {
+        answer: Answer::Done,
+        polled: n,
+        from: 0,
+        to: 0,
+        step: Step::FreeNode(0, 0),
+    }
+}
+
+fn planned(from: usize, to: usize, step: Step) -> Plan
+    ensures { λ r. ⌜ (r .answer ≡ Answer.Done) × (r .polled ≡ 0) × (r .from ≡ from) × (r .to ≡ to) × (r .step ≡ step) ⌝ }
+{
+    Plan {
+        answer: Answer::Done,
+        polled: 0,
+        from: from,
+        to: to,
+        step: step,
+    }
+}
+
+fn entry(node: Node, kind: Kind, lease: u16) -> Entry
+    ensures { λ r. ⌜ r ≡ entryOf node kind lease ⌝ }
+{
+    let on = node.bus;
+    Entry {
+        kind: kind_number(kind),
+        bus: bus_number(on),
+        address: node.address,
+        left: lease,
+    }
+}
+
+fn plan_open(f: Found, node: Node, kind: Kind, lease: u16) -> Plan
+    ensures { λ r. ⌜ Carries (opened node kind lease) (λ t. f ≡ foundIn t (targetOf node kind)) r ⌝ }
+{
+    let e = entry(node, kind, lease);
+    if f.held < 32 {
+        return planned(f.held, f.held + 1, Step::Put(e));
+    }
+    if f.free < 32 {
+        return planned(f.free, f.free + 1, Step::Put(e));
+    }
+    refused(Refusal::BoardFull)
+}
+
+fn plan_restart(node: Node) -> Plan
+    ensures { λ r. ⌜ Carries (done (Order.Restart node)) (λ _. Unit {0}) r ⌝ }
+{
+    let on = node.bus;
+    planned(0, 32, Step::FreeNode(bus_number(on), node.address))
+}
+
+fn plan_done(f: Found, o: Order) -> Plan
+    requires { ⌜ orderInRange o ≡ true ⌝ }
+    ensures { λ r. ⌜ Carries (done o) (λ t. f ≡ foundIn (take (soughtIn 32 o) t) (soughtBy o)) r ⌝ }
+{
+    match o {
+        Order::Open(node, kind, lease) => plan_open(f, node, kind, lease as u16),
+        Order::Close(node, kind) => planned(0, 32, Step::Free(target_of(node, kind))),
+        Order::Restart(node) => plan_restart(node),
+        Order::Poll => polled(32),
+        Order::Unnamed => polled(0),
+        Order::Nothing => polled(0),
+    }
+}
+
+// What an order to a table of n places answers and does: whether the table is good, and what was found in it, is told.
+pub(crate) fn plan_of(n: usize, good: bool, f: Found, o: Order) -> Plan
+    ensures { λ r. ⌜ Plans n good f o r ⌝ }
+{
+    if n != 32 {
+        return refused(Refusal::NoRoom);
+    }
+    if !good {
+        return refused(Refusal::BadRecord);
+    }
+    if !order_in_range(o) {
+        return refused(Refusal::OutOfRange);
+    }
+    plan_done(f, o)
+}
+
+fn poll_in(p: Places, n: usize) -> Places
+    requires { ⌜ n ≤ 32 ⌝ }
+    ensures { λ r. ⌜ r .rows ≡ polledIn n (p .rows) ⌝ }
+{
+    let mut q = p;
+    let mut i = 0;
+    while i < n {
+        let e = p.rows[i];
+        q.rows[i] = tick_of(e);
+        i += 1;
+    }
+    q
+}
+
+fn each_in(p: Places, from: usize, to: usize, s: Step) -> Places
+    requires { ⌜ (from ≤ to) × (to ≤ 32) ⌝ }
+    ensures { λ r. ⌜ r .rows ≡ steps from to s (p .rows) ⌝ }
+{
+    let mut q = p;
+    let mut i = from;
+    while i < to {
+        let e = p.rows[i];
+        q.rows[i] = stepped(e, s);
+        i += 1;
+    }
+    q
 }
 
 // The board carries out an order, or refuses it and changes nothing.
 pub fn apply(p: Places, o: Order) -> Changed
     ensures { λ r. ⌜ (paperAnswer (r .answer), r .places .rows) ≡ change (p .rows) o ⌝ }
 {
-    if !is_valid(p) {
-        return answered(Answer::Refused(Refusal::BadRecord), p);
+    let good = is_valid(p);
+    let f = find(p, sought_in(32, o), sought(o));
+    let d = plan_of(32, good, f, o);
+    let answer = d.answer;
+    let step = d.step;
+    let q = each_in(poll_in(p, d.polled), d.from, d.to, step);
+    Changed {
+        answer: answer,
+        places: q,
     }
-    if !order_in_range(o) {
-        return answered(Answer::Refused(Refusal::OutOfRange), p);
-    }
-    carry_out(p, o)
 }

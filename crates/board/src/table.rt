@@ -1,4 +1,5 @@
-// The board in a lent table: thin functions over a slice of entries. All work is done on the 32 places by value.
+// The board in a lent table: few functions over a slice of entries, in place. What is done to an entry, and to which, is decided by functions
+// of plain values.
 use crate::entries::Entry;
 use crate::entries::Places;
 use crate::entries::entry_at;
@@ -8,22 +9,35 @@ use crate::listing::Listed;
 use crate::listing::list_of;
 use crate::orders::Answer;
 use crate::orders::Order;
-use crate::orders::apply;
+use crate::orders::Step;
+use crate::orders::plan_of;
+use crate::orders::sought;
+use crate::orders::sought_in;
+use crate::orders::stepped;
+use crate::orders::tick_of;
+use crate::survey::Found;
+use crate::survey::Target;
+use crate::survey::found_none;
+use crate::survey::mark;
+use crate::survey::nearer;
 ghost use mathlib.Core.Path.{_≡_};
 ghost use mathlib.Core.Bool.{cond};
 ghost use mathlib.Core.List.{_++_};
 ghost use Prim.Native.Nat.{ℕ, _≤_};
 ghost use lib.Dec.{eqb};
 ghost use lib.ListN.{length, take, drop};
-ghost use Rattle.board.specs.Entries.{empty};
+ghost use Rattle.board.specs.Entries.{empty, valid};
 ghost use Rattle.board.specs.Orders.{change, paperAnswer, numberIf, numbered};
 ghost use Rattle.board.specs.Listing.{list, numberedList};
+ghost use Rattle.board.specs.Private.{foundIn, polledIn, steps, Acts, Decided};
 
-// What a call leaves: its answer as C gets it, and so many places to store; none of them where it is refused.
+// A plan with its answer as C gets it, the refusal's number and 0 for none.
 pub struct Acted {
-    pub count: usize,
     pub answer: u8,
-    pub places: Places,
+    pub polled: usize,
+    pub from: usize,
+    pub to: usize,
+    pub step: Step,
 }
 
 fn number_of(answer: Answer) -> u8
@@ -35,31 +49,19 @@ fn number_of(answer: Answer) -> u8
     }
 }
 
-fn acted_as(answer: u8, count: usize, p: Places) -> Acted
-    ensures { λ r. ⌜ (r .answer ≡ answer) × (r .count ≡ count) × (r .places .rows ≡ p .rows) ⌝ }
+fn act(n: usize, good: bool, f: Found, o: Order) -> Acted
+    ensures { λ r. ⌜ Acts n good f o (r .answer) (r .polled) (r .from) (r .to) (r .step) ⌝ }
 {
+    let d = plan_of(n, good, f, o);
+    let answer = d.answer;
+    let step = d.step;
     Acted {
-        count: count,
-        answer: answer,
-        places: p,
+        answer: number_of(answer),
+        polled: d.polled,
+        from: d.from,
+        to: d.to,
+        step: step,
     }
-}
-
-// An order to a table of n places, of which these are the first 32.
-fn act(n: usize, p: Places, o: Order) -> Acted
-    ensures { λ r. ⌜ ((r .answer, take (r .count) (r .places .rows) ++ drop (r .count) (p .rows)) ≡ cond (eqb n 32) (numbered (change (p .rows) o)) (1, p .rows)) × (r .count ≤ n) × (r .count ≤ 32) ⌝ }
-{
-    if n != 32 {
-        return acted_as(1, 0, p);
-    }
-    let c = apply(p, o);
-    let answer = c.answer;
-    let q = c.places;
-    let refusal = number_of(answer);
-    if refusal > 0 {
-        return acted_as(refusal, 0, q);
-    }
-    acted_as(0, 32, q)
 }
 
 // 32 where a table has 32 places, else none: so many are worked on.
@@ -97,15 +99,77 @@ fn store(t: &mut [Entry], n: usize, p: Places)
     }
 }
 
+// Whether the first n places are good.
+fn is_good(t: &[Entry], n: usize) -> bool
+    requires { ⌜ n ≤ length (now t) ⌝ }
+    ensures { λ r. ⌜ r ≡ valid (take n (now (t .entry))) ⌝ }
+{
+    let mut seen = [0u8; 384];
+    let mut good = true;
+    let mut i = n;
+    while i > 0 {
+        i -= 1;
+        good = mark(&mut seen, good, t[i]);
+    }
+    good
+}
+
+// What is found in the first n places.
+fn seek(t: &[Entry], n: usize, k: Target) -> Found
+    requires { ⌜ n ≤ length (now t) ⌝ }
+    ensures { λ r. ⌜ r ≡ foundIn (take n (now (t .entry))) k ⌝ }
+{
+    let mut f = found_none(n);
+    let mut i = n;
+    while i > 0 {
+        i -= 1;
+        f = nearer(f, t[i], i, k);
+    }
+    f
+}
+
+fn poll(t: &mut [Entry], n: usize)
+    requires { ⌜ n ≤ length (now t) ⌝ }
+    ensures { λ _. ⌜ now (t .exit) ≡ polledIn n (now (t .entry)) ⌝ }
+{
+    let mut i = 0;
+    while i < n {
+        t[i] = tick_of(t[i]);
+        i += 1;
+    }
+}
+
+fn each(t: &mut [Entry], from: usize, to: usize, s: Step)
+    requires { ⌜ (from ≤ to) × (to ≤ length (now t)) ⌝ }
+    ensures { λ _. ⌜ now (t .exit) ≡ steps from to s (now (t .entry)) ⌝ }
+{
+    let mut i = from;
+    while i < to {
+        t[i] = stepped(t[i], s);
+        i += 1;
+    }
+}
+
+// What an order answers on a table, and what is to be done to which places.
+fn decide(t: &[Entry], o: Order) -> Acted
+    ensures { λ r. ⌜ Decided (now (t .entry)) o (r .answer) (r .polled) (r .from) (r .to) (r .step) ⌝ }
+{
+    let n = places_of(t.len());
+    let good = is_good(t, n);
+    let m = sought_in(n, o);
+    let k = sought(o);
+    let f = seek(t, m, k);
+    act(n, good, f, o)
+}
+
 // The board carries out an order in the lent table, or refuses it and changes nothing.
 pub fn change(t: &mut [Entry], o: Order) -> u8
     ensures { λ r. ⌜ (r, now (t .exit)) ≡ numbered (change (now (t .entry)) o) ⌝ }
 {
-    let n = places_of(t.len());
-    let p = load(&*t, n);
-    let done = act(n, p, o);
-    store(t, done.count, done.places);
-    done.answer
+    let d = decide(&*t, o);
+    poll(t, d.polled);
+    each(t, d.from, d.to, d.step);
+    d.answer
 }
 
 // Lists the board of a lent table at the start of the lent room, or refuses and changes nothing.

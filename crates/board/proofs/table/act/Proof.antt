@@ -1,7 +1,6 @@
 -- `board::table::act` meets its contract. Assumes nothing.
 use borrow.Author.Needs.{needs}
-use Rattle.board.proofs.Walk.{places-32}
-use Rattle.board.proofs.Returns.{acted-length, acted-refused, acted-done}
+use Rattle.board.proofs.Carried.{acts-is}
 use Rattle.board.proofs.table.act.Statement.{statement}
 use Rattle.board.proofs.table.act.Tie as tie
 
@@ -10,10 +9,5 @@ act-spec =
     tie.close
     (tie.spec
     (λ c κs. search needs)
-    (λ c. acted-length _ _ _ (c .before .if1 .taken) (c .acted-as .ensures))
     (λ c κs. search needs)
-    (λ c κs. search needs)
-    (λ c κs. search needs)
-    (λ c. acted-refused _ _ _ (c .before .before .before .before .apply .result .answer) (c .before .before .before .before .before .if1 .left) (c .before .before .before .before .apply .ensures) (c .before .before .number-of .ensures) (c .before .if2 .taken) (c .acted-as2 .ensures))
-    (λ c κs. search needs)
-    (λ c. acted-done _ _ _ (c .before .before .before .before .apply .result .answer) (c .before .before .before .before .before .if1 .left) (places-32 (c .before .before .before .before .before .before .args .p) _ (c .before .before .before .before .before .before .good .1 .0)) (c .before .before .before .before .apply .ensures) (c .before .before .number-of .ensures) (c .before .if2 .left) (c .acted-as3 .ensures)))
+    (λ c. acts-is _ _ _ _ (c .before .plan-of .result .answer) _ _ _ _ (c .number-of .ensures) (c .before .plan-of .ensures)))
