@@ -3,6 +3,11 @@
 //! MFC_SEED or the first argument sets the seed, MFC_ONLY runs the sections whose name holds it, and MFC_PERCENT takes
 //! that share of the random cases (100 is the usual run).
 
+mod board;
+mod board_cases;
+mod board_generate;
+mod board_sections;
+mod board_vectors;
 mod cases;
 mod generate;
 mod harness;
@@ -634,6 +639,7 @@ fn main() {
     let mut report = Report { seed: seed(), percent, only, sections: 0, cases: 0, failures: 0 };
     println!("seed {}", report.seed);
     vectors::run(&mut report);
+    board_vectors::run(&mut report);
     report.section("checksum", checksum_section);
     report.section("crc", crc_section);
     report.section("write a request", write_request_section);
@@ -664,6 +670,7 @@ fn main() {
     report.section("registers: all of them", registers_section);
     report.section("scaled readings", scaled_section);
     report.section("scaled readings: the reference itself", float_reference_section);
+    board_sections::run(&mut report);
     let (sections, cases) = (report.sections, thousands(report.cases));
     println!("differential: {sections} sections, {cases} cases, {} failures", report.failures);
     if report.failures > 0 {

@@ -73,6 +73,25 @@ pub struct Quantity {
     pub value: f32,
 }
 
+/// A place of the handover board's table. C leaves byte 3 free; it has a name here, so that every byte can be compared.
+#[repr(C)]
+#[derive(Clone, Copy, Default, PartialEq, Eq)]
+pub struct Entry {
+    pub kind: u8,
+    pub bus: u8,
+    pub address: u8,
+    pub padding: u8,
+    pub left: u16,
+}
+
+/// Entries listed.
+#[repr(C)]
+#[derive(Clone, Copy, Debug, Default, PartialEq, Eq)]
+pub struct Listed {
+    pub refusal: u8,
+    pub count: usize,
+}
+
 /// Floats are compared by bits: -0 is not 0, and a NaN is itself.
 impl PartialEq for Quantity {
     fn eq(&self, other: &Quantity) -> bool {
@@ -111,4 +130,11 @@ pub trait Interface {
     fn edit_advanced(&self, value: u16, field: u32) -> Register;
     fn scaled(&self, raw: i16, offset: i16, scale: i32) -> Thousandths;
     fn scaled_float(&self, raw: i16, offset: i16, scale: i32) -> Quantity;
+    fn board_open(&self, table: &mut [Entry], bus: u8, address: u8, kind: u8, lease: u32) -> u8;
+    fn board_close(&self, table: &mut [Entry], bus: u8, address: u8, kind: u8) -> u8;
+    fn board_restart(&self, table: &mut [Entry], bus: u8, address: u8) -> u8;
+    fn board_poll(&self, table: &mut [Entry]) -> u8;
+    fn board_list(&self, table: &[Entry], entries: &mut [Entry]) -> Listed;
+    fn board_reply(&self, table: &mut [Entry], address: u8, request: u8, refusal: u8, lease: u32) -> u8;
+    fn board_acknowledged(&self, table: &mut [Entry], address: u8, code: u16, lease: u32) -> u8;
 }

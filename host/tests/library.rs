@@ -40,6 +40,13 @@ extern "C" {
     fn mfc_edit_advanced(value: u16, field: u32) -> Register;
     fn mfc_scaled(raw: i16, offset: i16, scale: i32) -> Thousandths;
     fn mfc_scaled_float(raw: i16, offset: i16, scale: i32) -> Quantity;
+    fn mfc_board_open(table: *mut Entry, places: usize, bus: u8, address: u8, kind: u8, lease: u32) -> u8;
+    fn mfc_board_close(table: *mut Entry, places: usize, bus: u8, address: u8, kind: u8) -> u8;
+    fn mfc_board_restart(table: *mut Entry, places: usize, bus: u8, address: u8) -> u8;
+    fn mfc_board_poll(table: *mut Entry, places: usize) -> u8;
+    fn mfc_board_list(table: *const Entry, places: usize, entries: *mut Entry, room: usize) -> Listed;
+    fn mfc_board_reply(table: *mut Entry, places: usize, address: u8, request: u8, refusal: u8, lease: u32) -> u8;
+    fn mfc_board_acknowledged(table: *mut Entry, places: usize, address: u8, code: u16, lease: u32) -> u8;
 }
 
 /// The library; an empty slice goes over as NULL where that is asked for, else as a pointer that must not be followed.
@@ -151,5 +158,33 @@ impl Interface for Library {
 
     fn scaled_float(&self, raw: i16, offset: i16, scale: i32) -> Quantity {
         unsafe { mfc_scaled_float(raw, offset, scale) }
+    }
+
+    fn board_open(&self, table: &mut [Entry], bus: u8, address: u8, kind: u8, lease: u32) -> u8 {
+        unsafe { mfc_board_open(self.write(table), table.len(), bus, address, kind, lease) }
+    }
+
+    fn board_close(&self, table: &mut [Entry], bus: u8, address: u8, kind: u8) -> u8 {
+        unsafe { mfc_board_close(self.write(table), table.len(), bus, address, kind) }
+    }
+
+    fn board_restart(&self, table: &mut [Entry], bus: u8, address: u8) -> u8 {
+        unsafe { mfc_board_restart(self.write(table), table.len(), bus, address) }
+    }
+
+    fn board_poll(&self, table: &mut [Entry]) -> u8 {
+        unsafe { mfc_board_poll(self.write(table), table.len()) }
+    }
+
+    fn board_list(&self, table: &[Entry], entries: &mut [Entry]) -> Listed {
+        unsafe { mfc_board_list(self.read(table), table.len(), self.write(entries), entries.len()) }
+    }
+
+    fn board_reply(&self, table: &mut [Entry], address: u8, request: u8, refusal: u8, lease: u32) -> u8 {
+        unsafe { mfc_board_reply(self.write(table), table.len(), address, request, refusal, lease) }
+    }
+
+    fn board_acknowledged(&self, table: &mut [Entry], address: u8, code: u16, lease: u32) -> u8 {
+        unsafe { mfc_board_acknowledged(self.write(table), table.len(), address, code, lease) }
     }
 }

@@ -4,6 +4,7 @@
 //! as its raw bytes and judged when it ends, a CRC is a long division, a rounded quotient is the nearer of its two
 //! neighbours. A refusal is the first in the document's order among all those whose condition holds.
 
+use crate::board;
 use crate::interface::*;
 
 /// The number of the first condition that holds, 0 where none does.
@@ -813,5 +814,33 @@ impl Interface for Reference {
 
     fn scaled_float(&self, raw: i16, offset: i16, scale: i32) -> Quantity {
         scaled_float(raw, offset, scale)
+    }
+
+    fn board_open(&self, table: &mut [Entry], bus: u8, address: u8, kind: u8, lease: u32) -> u8 {
+        board::open(table, bus, address, kind, lease)
+    }
+
+    fn board_close(&self, table: &mut [Entry], bus: u8, address: u8, kind: u8) -> u8 {
+        board::close(table, bus, address, kind)
+    }
+
+    fn board_restart(&self, table: &mut [Entry], bus: u8, address: u8) -> u8 {
+        board::restart(table, bus, address)
+    }
+
+    fn board_poll(&self, table: &mut [Entry]) -> u8 {
+        board::poll(table)
+    }
+
+    fn board_list(&self, table: &[Entry], entries: &mut [Entry]) -> Listed {
+        board::list(table, entries)
+    }
+
+    fn board_reply(&self, table: &mut [Entry], address: u8, request: u8, refusal: u8, lease: u32) -> u8 {
+        board::reply(table, address, request, refusal, lease)
+    }
+
+    fn board_acknowledged(&self, table: &mut [Entry], address: u8, code: u16, lease: u32) -> u8 {
+        board::acknowledged(table, address, code, lease)
     }
 }

@@ -8,7 +8,7 @@ use crate::reference::{items, Event, Item, Reference, PRODUCT_TYPE, RECORD, STOR
 
 const LIBRARY: Library = Library { null_for_empty: false };
 
-fn both() -> [(&'static str, &'static dyn Interface); 2] {
+pub fn both() -> [(&'static str, &'static dyn Interface); 2] {
     [("reference", &Reference), ("library", &LIBRARY)]
 }
 
@@ -82,7 +82,7 @@ fn received(on: &dyn Interface, kind: u8, events: &[Event], widest: usize) -> Ve
 }
 
 /// The body of a wire frame, by the receiver.
-fn body_of(on: &dyn Interface, kind: u8, wire: &str) -> Vec<u8> {
+pub fn body_of(on: &dyn Interface, kind: u8, wire: &str) -> Vec<u8> {
     match &received(on, kind, &events(wire), 4096)[..] {
         [Item::Frame(body)] => body.clone(),
         _ => Vec::new(),

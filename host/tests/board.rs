@@ -1,0 +1,184 @@
+//! Document 02 (i), the handover board, once more in plain Rust: written from the document, to be compared with the
+//! library.
+//!
+//! A call makes a map of the table, from bus, address and kind to a place and the polls left, does its work on the map
+//! and lays it into the table again. The map is in the order of the list. A refusal ends the call before that.
+
+use crate::interface::{Entry, Listed};
+use std::collections::BTreeMap;
+
+pub const PLACES: usize = 32;
+pub const SERIAL: u8 = 0;
+pub const I2C: u8 = 1;
+pub const VALVE: u8 = 1;
+pub const CALIBRATION: u8 = 2;
+
+/// The last request of 01's table.
+const LAST_REQUEST: u8 = 20;
+/// Command 45 set and command 46.
+pub const SET_CALIBRATION: u8 = 14;
+pub const VOLATILE_CALIBRATION: u8 = 15;
+
+pub const SHUT_VALVE: u16 = 0x3FEF;
+pub const NORMAL_CONTROL: u16 = 0x3F6E;
+/// The other codes of SFC6, which concern no entry.
+pub const OTHER_CODES: [u16; 5] = [0xE102, 0xE000, 0xE17D, 0x3650, 0x365B];
+
+/// Bus, address and kind, whose numbers are in the order of the list: serial 0, I2C 1; valve 1, calibration 2.
+type Key = (u8, u8, u8);
+
+/// Where an entry stands, and its polls left.
+#[derive(Clone, Copy)]
+struct Held {
+    place: usize,
+    left: u16,
+}
+
+struct Board(BTreeMap<Key, Held>);
+
+fn is_node(bus: u8, address: u8) -> bool {
+    match bus {
+        SERIAL => address <= 254,
+        I2C => address <= 127,
+        _ => false,
+    }
+}
+
+fn is_key((bus, address, kind): Key) -> bool {
+    is_node(bus, address) && [VALVE, CALIBRATION].contains(&kind)
+}
+
+/// 12 where a number is out of its range.
+fn in_range(is_so: bool) -> Result<(), u8> {
+    if is_so {
+        Ok(())
+    } else {
+        Err(12)
+    }
+}
+
+/// The place with other numbers; byte 3 stays as it is.
+fn renumbered(place: Entry, (bus, address, kind): Key, left: u16) -> Entry {
+    Entry { kind, bus, address, left, ..place }
+}
+
+fn freed(place: Entry) -> Entry {
+    renumbered(place, (0, 0, 0), 0)
+}
+
+impl Board {
+    /// The board that a table is, or 1 or 2.
+    fn of(table: &[Entry]) -> Result<Board, u8> {
+        if table.len() != PLACES {
+            return Err(1);
+        }
+        let mut held = BTreeMap::new();
+        for (place, &entry) in table.iter().enumerate().filter(|(_, entry)| **entry != freed(**entry)) {
+            let key = (entry.bus, entry.address, entry.kind);
+            let twice = held.insert(key, Held { place, left: entry.left }).is_some();
+            if twice || !is_key(key) {
+                return Err(2);
+            }
+        }
+        Ok(Board(held))
+    }
+
+    fn lay(&self, table: &mut [Entry]) {
+        table.iter_mut().for_each(|place| *place = freed(*place));
+        for (key, held) in &self.0 {
+            table[held.place] = renumbered(table[held.place], *key, held.left);
+        }
+    }
+
+    /// The first number that is missing among the sorted places.
+    fn lowest_free(&self) -> usize {
+        let mut places: Vec<usize> = self.0.values().map(|held| held.place).collect();
+        places.sort_unstable();
+        places.iter().enumerate().take_while(|(number, place)| number == *place).count()
+    }
+
+    fn open(&mut self, key: Key, lease: u32) -> Result<(), u8> {
+        let left = u16::try_from(lease).unwrap_or(0);
+        in_range(is_key(key) && left > 0)?;
+        let place = self.0.get(&key).map_or_else(|| self.lowest_free(), |held| held.place);
+        if place == PLACES {
+            return Err(19);
+        }
+        self.0.insert(key, Held { place, left });
+        Ok(())
+    }
+
+    fn close(&mut self, key: Key) -> Result<(), u8> {
+        in_range(is_key(key))?;
+        self.0.remove(&key);
+        Ok(())
+    }
+}
+
+/// Does a piece of work on the table's board; the table changes where nothing is refused.
+fn on_board(table: &mut [Entry], work: impl FnOnce(&mut Board) -> Result<(), u8>) -> u8 {
+    match Board::of(table).and_then(|mut board| work(&mut board).map(|()| board)) {
+        Err(refusal) => refusal,
+        Ok(board) => {
+            board.lay(table);
+            0
+        }
+    }
+}
+
+pub fn open(table: &mut [Entry], bus: u8, address: u8, kind: u8, lease: u32) -> u8 {
+    on_board(table, |board| board.open((bus, address, kind), lease))
+}
+
+pub fn close(table: &mut [Entry], bus: u8, address: u8, kind: u8) -> u8 {
+    on_board(table, |board| board.close((bus, address, kind)))
+}
+
+pub fn restart(table: &mut [Entry], bus: u8, address: u8) -> u8 {
+    on_board(table, |board| {
+        in_range(is_node(bus, address))?;
+        board.0.retain(|key, _| (key.0, key.1) != (bus, address));
+        Ok(())
+    })
+}
+
+pub fn poll(table: &mut [Entry]) -> u8 {
+    on_board(table, |board| {
+        board.0.values_mut().filter(|held| held.left > 0).for_each(|held| held.left -= 1);
+        Ok(())
+    })
+}
+
+pub fn list(table: &[Entry], entries: &mut [Entry]) -> Listed {
+    let refused = |refusal| Listed { refusal, count: 0 };
+    match Board::of(table) {
+        Err(refusal) => refused(refusal),
+        Ok(board) if board.0.len() > entries.len() => refused(1),
+        Ok(board) => {
+            for (place, (key, held)) in entries.iter_mut().zip(&board.0) {
+                *place = renumbered(*place, *key, held.left);
+            }
+            Listed { refusal: 0, count: board.0.len() }
+        }
+    }
+}
+
+pub fn reply(table: &mut [Entry], address: u8, request: u8, refusal: u8, lease: u32) -> u8 {
+    let key = (SERIAL, address, CALIBRATION);
+    on_board(table, |board| match (request, refusal) {
+        (VOLATILE_CALIBRATION, 0) => board.open(key, lease),
+        (SET_CALIBRATION, 0) => board.close(key),
+        (0..=LAST_REQUEST, _) => Ok(()),
+        _ => Err(12),
+    })
+}
+
+pub fn acknowledged(table: &mut [Entry], address: u8, code: u16, lease: u32) -> u8 {
+    let key = (I2C, address, VALVE);
+    on_board(table, |board| match code {
+        SHUT_VALVE => board.open(key, lease),
+        NORMAL_CONTROL => board.close(key),
+        _ if OTHER_CODES.contains(&code) => Ok(()),
+        _ => Err(12),
+    })
+}
