@@ -222,10 +222,89 @@ static void i2c_codes(void)
     }
 }
 
+/* ---- The handover board, by 02 (i) */
+
+/* Each function on an empty table of every size: 31 and 33 places are refused, 32 are not. */
+static void board_places(void)
+{
+    mfc_entry table[2 * MFC_BOARD_PLACES], entries[1];
+    memset(table, 0, sizeof table);
+    expect(MFC_BOARD_PLACES == 32, "the places of a table", MFC_BOARD_PLACES);
+    for (size_t n = 0; n <= 2 * MFC_BOARD_PLACES; n++) {
+        int answer = n == MFC_BOARD_PLACES ? 0 : MFC_REFUSAL_NO_ROOM;
+        expect(mfc_board_open(table, n, MFC_BUS_I2C, 5, MFC_ENTRY_VALVE, 9) == answer, "opened in so many places", n);
+        expect(mfc_board_poll(table, n) == answer, "polled with so many places", n);
+        expect(mfc_board_list(table, n, entries, 1).refusal == answer, "listed with so many places", n);
+        expect(mfc_board_close(table, n, MFC_BUS_I2C, 5, MFC_ENTRY_VALVE) == answer, "closed in so many places", n);
+        expect(mfc_board_restart(table, n, MFC_BUS_SERIAL, 5) == answer, "restarted with so many places", n);
+        expect(mfc_board_reply(table, n, 5, MFC_REQUEST_GET_SETPOINT, 0, 9) == answer, "a reply with so many places", n);
+        expect(mfc_board_acknowledged(table, n, 5, MFC_SFC6_POINT_BACK, 9) == answer, "a code with so many places", n);
+    }
+}
+
+static uint8_t opened(unsigned bus, unsigned address, unsigned kind)
+{
+    mfc_entry table[MFC_BOARD_PLACES];
+    memset(table, 0, sizeof table);
+    return mfc_board_open(table, MFC_BOARD_PLACES, (uint8_t)bus, (uint8_t)address, (uint8_t)kind, 9);
+}
+
+/* Every number as a bus, as a kind and as an address, which goes to 254 on serial and to 127 on I2C. */
+static void board_numbers(void)
+{
+    for (unsigned n = 0; n < 256; n++) {
+        int bus = n == MFC_BUS_SERIAL || n == MFC_BUS_I2C, kind = n == MFC_ENTRY_VALVE || n == MFC_ENTRY_CALIBRATION;
+        expect(opened(n, 5, MFC_ENTRY_VALVE) == (bus ? 0 : MFC_REFUSAL_OUT_OF_RANGE), "a bus", n);
+        expect(opened(MFC_BUS_SERIAL, 5, n) == (kind ? 0 : MFC_REFUSAL_OUT_OF_RANGE), "a kind of entry", n);
+        expect(opened(MFC_BUS_SERIAL, n, MFC_ENTRY_VALVE) == (n <= 254 ? 0 : MFC_REFUSAL_OUT_OF_RANGE), "on serial", n);
+        expect(opened(MFC_BUS_I2C, n, MFC_ENTRY_VALVE) == (n <= 127 ? 0 : MFC_REFUSAL_OUT_OF_RANGE), "on I2C", n);
+    }
+}
+
+static int holds(mfc_entry place, unsigned bus, unsigned address, unsigned kind, unsigned left)
+{
+    return place.bus == bus && place.address == address && place.kind == kind && place.left == left;
+}
+
+/* What 3FEF and an accepted 46 open, 3F6E and an accepted 45 set close; serial is listed first, and a node's valve. */
+static void board_names(void)
+{
+    mfc_entry table[MFC_BOARD_PLACES], entries[3];
+    const size_t n = MFC_BOARD_PLACES;
+    memset(table, 0, sizeof table);
+    expect(mfc_board_acknowledged(table, n, 5, MFC_SFC6_SHUT_VALVE, 8) == 0, "3FEF", 0);
+    expect(holds(table[0], MFC_BUS_I2C, 5, MFC_ENTRY_VALVE, 8), "what 3FEF opens", 0);
+    expect(mfc_board_reply(table, n, 6, MFC_REQUEST_VOLATILE_CALIBRATION, 0, 9) == 0, "46", 1);
+    expect(holds(table[1], MFC_BUS_SERIAL, 6, MFC_ENTRY_CALIBRATION, 9), "what 46 opens", 1);
+    expect(mfc_board_open(table, n, MFC_BUS_SERIAL, 6, MFC_ENTRY_VALVE, 7) == 0, "a valve on serial", 2);
+    expect(mfc_board_list(table, n, entries, 3).count == 3, "the entries", 3);
+    expect(holds(entries[0], MFC_BUS_SERIAL, 6, MFC_ENTRY_VALVE, 7), "listed first", 0);
+    expect(holds(entries[1], MFC_BUS_SERIAL, 6, MFC_ENTRY_CALIBRATION, 9), "listed second", 1);
+    expect(holds(entries[2], MFC_BUS_I2C, 5, MFC_ENTRY_VALVE, 8), "listed third", 2);
+    expect(mfc_board_acknowledged(table, n, 5, MFC_SFC6_NORMAL_CONTROL, 8) == 0, "3F6E", 0);
+    expect(mfc_board_reply(table, n, 6, MFC_REQUEST_SET_CALIBRATION, 0, 9) == 0, "45 set", 1);
+    expect(holds(table[0], 0, 0, 0, 0) && holds(table[1], 0, 0, 0, 0), "closed", 0);
+    expect(mfc_board_list(table, n, entries, 3).count == 1, "the entry that is left", 1);
+}
+
+/* As many entries as there are places, and one more. */
+static void board_full(void)
+{
+    mfc_entry table[MFC_BOARD_PLACES];
+    memset(table, 0, sizeof table);
+    expect(MFC_REFUSAL_BOARD_FULL == 19, "the refusal of a full board", MFC_REFUSAL_BOARD_FULL);
+    for (uint8_t address = 0; address <= MFC_BOARD_PLACES; address++) {
+        uint8_t refusal = mfc_board_open(table, MFC_BOARD_PLACES, MFC_BUS_I2C, address, MFC_ENTRY_VALVE, 9);
+        expect(refusal == (address < MFC_BOARD_PLACES ? 0 : MFC_REFUSAL_BOARD_FULL), "so many entries before", address);
+    }
+}
+
 int main(int argc, char **argv)
 {
-    static void (*const sections[])(void) = {record_size, frame_room, request_room, reply_room, requests_and_replies,
-                                             kinds,       refusals,   start_values, i2c_codes};
+    static void (*const sections[])(void) = {
+        record_size, frame_room,   request_room,  reply_room,  requests_and_replies, kinds, refusals, start_values,
+        i2c_codes,   board_places, board_numbers, board_names, board_full,
+    };
     const int count = sizeof sections / sizeof sections[0];
     if (argc != 2) {
         fprintf(stderr, "usage: constants NAME\n");

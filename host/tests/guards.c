@@ -41,10 +41,20 @@ mfc_register mfc_edit_user(uint16_t value, uint32_t field);
 mfc_register mfc_edit_advanced(uint16_t value, uint32_t field);
 mfc_thousandths mfc_scaled(int16_t raw, int16_t offset, int32_t scale);
 mfc_quantity mfc_scaled_float(int16_t raw, int16_t offset, int32_t scale);
+uint8_t mfc_board_open(mfc_entry *table, size_t places, uint8_t bus, uint8_t address, uint8_t kind, uint32_t lease);
+uint8_t mfc_board_close(mfc_entry *table, size_t places, uint8_t bus, uint8_t address, uint8_t kind);
+uint8_t mfc_board_restart(mfc_entry *table, size_t places, uint8_t bus, uint8_t address);
+uint8_t mfc_board_poll(mfc_entry *table, size_t places);
+mfc_listed mfc_board_list(const mfc_entry *table, size_t places, mfc_entry *entries, size_t room);
+uint8_t mfc_board_reply(mfc_entry *table, size_t places, uint8_t address, uint8_t request, uint8_t refusal,
+                        uint32_t lease);
+uint8_t mfc_board_acknowledged(mfc_entry *table, size_t places, uint8_t address, uint16_t code, uint32_t lease);
 
 _Static_assert(offsetof(mfc_reply, value) == 4, "four bytes stand before the value");
 _Static_assert(offsetof(mfc_register, value) == 2, "the register's value follows the refusal");
 _Static_assert(sizeof(mfc_quantity) == 8, "a refusal and a float");
+_Static_assert(sizeof(mfc_entry) == 6 && offsetof(mfc_entry, left) == 4, "three bytes, a free one, and the polls left");
+_Static_assert(offsetof(mfc_listed, count) == sizeof(size_t), "a list's count stands where that of words does");
 
 enum { SLOTS = 3, LARGEST = 4096 };
 
@@ -384,6 +394,127 @@ static void numbers(void)
     fold(bits);
 }
 
+/* ---- The handover board: tables of any number of places, each lent as its bytes */
+
+enum { PLACE = sizeof(mfc_entry), MOST_PLACES = 64, FREE_BYTE = 3 };
+
+static mfc_entry *places_of(struct lent lent)
+{
+    return (mfc_entry *)(void *)lent.bytes;
+}
+
+/* Takes places back. The free byte of a place may hold anything after a call, so it does not go into the digest. */
+static void take_back_places(struct lent lent)
+{
+    for (size_t at = FREE_BYTE; at < lent.length; at += PLACE) {
+        lent.bytes[at] = 0;
+    }
+    take_back(lent);
+}
+
+static uint8_t an_address(void)
+{
+    static const uint8_t ends[] = {0, 127, 128, 254, 255};
+    return below(16) ? (uint8_t)below(20) : ends[below(sizeof ends)];
+}
+
+/* One order on a table: mostly one that opens an entry, since all places are to be held now and then. */
+static uint8_t give_order(mfc_entry *table, size_t places)
+{
+    static const uint16_t codes[] = {MFC_SFC6_SHUT_VALVE, MFC_SFC6_NORMAL_CONTROL, MFC_SFC6_POINT_BACK, 0x3FE4};
+    uint8_t bus = (uint8_t)(below(32) ? below(2) : any()), kind = (uint8_t)(below(32) ? 1 + below(2) : any());
+    uint8_t address = an_address();
+    uint32_t lease = below(16) ? 1 + (uint32_t)below(30) : any() >> below(32);
+    switch (below(16)) {
+    case 0:
+        begin("mfc_board_close");
+        return mfc_board_close(table, places, bus, address, kind);
+    case 1:
+        begin("mfc_board_restart");
+        return mfc_board_restart(table, places, bus, address);
+    case 2:
+    case 3:
+        begin("mfc_board_poll");
+        return mfc_board_poll(table, places);
+    case 4:
+        begin("mfc_board_reply");
+        return mfc_board_reply(table, places, address, (uint8_t)below(REQUESTS + 1), (uint8_t)below(2), lease);
+    case 5:
+    case 6:
+        begin("mfc_board_reply");
+        return mfc_board_reply(table, places, address, MFC_REQUEST_VOLATILE_CALIBRATION, 0, lease);
+    case 7:
+        begin("mfc_board_acknowledged");
+        return mfc_board_acknowledged(table, places, address, codes[below(sizeof codes / sizeof codes[0])], lease);
+    case 8:
+    case 9:
+        begin("mfc_board_acknowledged");
+        return mfc_board_acknowledged(table, places, address, MFC_SFC6_SHUT_VALVE, lease);
+    default:
+        begin("mfc_board_open");
+        return mfc_board_open(table, places, bus, address, kind, lease);
+    }
+}
+
+/* The table comes back changed as the library changes it. */
+static void order(uint8_t *table, size_t places)
+{
+    struct lent lent = lend(0, table, places * PLACE);
+    uint8_t refusal = give_order(places_of(lent), places);
+    if (lent.length > 0) {
+        if (refusal != 0 && memcmp(lent.bytes, table, lent.length) != 0) {
+            fail("a refusal changed the table");
+        }
+        memcpy(table, lent.bytes, lent.length);
+    }
+    fold(refusal);
+    take_back_places(lent);
+}
+
+static void list(const uint8_t *table, size_t places, size_t room)
+{
+    begin("mfc_board_list");
+    struct lent lent = lend(0, table, places * PLACE);
+    struct lent entries = lend(1, NULL, room * PLACE);
+    mfc_listed listed = mfc_board_list(places_of(lent), places, places_of(entries), room);
+    if (listed.count > room) {
+        fail("more than was lent");
+    }
+    if (places > 0 && memcmp(lent.bytes, table, lent.length) != 0) {
+        fail("a list changed the table");
+    }
+    size_t used = listed.count * PLACE;
+    if (room > 0 && memcmp(entries.bytes + used, pattern + used, entries.length - used) != 0) {
+        fail("a list changed room past its entries");
+    }
+    fold(listed.refusal);
+    fold(listed.count);
+    take_back(lent);
+    take_back_places(entries);
+}
+
+/* Orders from the empty table about a few nodes, other sizes and lists between them; then places of any bytes. */
+static void board(void)
+{
+    uint8_t table[MOST_PLACES * PLACE] = {0};
+    for (size_t at = FREE_BYTE; at < sizeof table; at += PLACE) {
+        table[at] = (uint8_t)any();
+    }
+    for (int orders = 0; orders < 90; orders++) {
+        order(table, MFC_BOARD_PLACES);
+        if (below(12) == 0) {
+            order(table, below(MOST_PLACES + 1));
+            list(table, below(4) ? MFC_BOARD_PLACES : below(MOST_PLACES + 1), below(MFC_BOARD_PLACES + 9));
+        }
+    }
+    list(table, MFC_BOARD_PLACES, MFC_BOARD_PLACES);
+    for (int spoilt = 0; spoilt < 3; spoilt++) {
+        table[below(MFC_BOARD_PLACES * PLACE)] = (uint8_t)any();
+        order(table, MFC_BOARD_PLACES);
+        list(table, MFC_BOARD_PLACES, MFC_BOARD_PLACES);
+    }
+}
+
 /* ---- One round: all functions, the writers' frames going through the receiver into the readers */
 
 static void writers(uint8_t *frame, size_t *length)
@@ -471,6 +602,10 @@ static void one_round(void)
     words(below(64), below(64), 0);
     i2c_commands();
     numbers();
+    /* It makes more calls than all the rest, so not every round has it. */
+    if (below(4) == 0) {
+        board();
+    }
 }
 
 int main(int argc, char **argv)
