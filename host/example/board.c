@@ -6,6 +6,7 @@
 #include "truth.h"
 
 #define FLOW_CONTROL 0x0800u      /* bit 11 of the status word */
+#define NO_FLOW 0x9000u           /* 0 slm (001, section 3.3.3) */
 
 /* What the two devices know. */
 static struct {
@@ -58,10 +59,15 @@ static int write_liquid(const uint8_t *bytes, size_t n)
     return 1;
 }
 
+static uint16_t sfc6_flow_word(void)
+{
+    return board.valve_shut ? NO_FLOW : (uint16_t)TRUE_SFC6_FLOW;
+}
+
 /* Flow, a reserved value and the status, or the temperature; nothing before a measurement is started. */
 static size_t sfc6_words(uint16_t *words)
 {
-    words[0] = board.at_temperature ? (uint16_t)TRUE_SFC6_TEMPERATURE : (uint16_t)TRUE_SFC6_FLOW;
+    words[0] = board.at_temperature ? (uint16_t)TRUE_SFC6_TEMPERATURE : sfc6_flow_word();
     words[1] = 0;
     words[2] = (uint16_t)(board.mixture | (board.valve_shut ? 0 : FLOW_CONTROL) | board.concentration);
     return !board.running ? 0 : board.at_temperature ? 1 : MOST_WORDS;

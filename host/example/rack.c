@@ -1,4 +1,4 @@
-/* rack: 24 controllers on a pseudo-terminal, for trying a supervisory program without the gas.
+/* rack: 24 controllers, or as many as an option says, on a pseudo-terminal, for trying a supervisory program without the gas.
  *
  * They read requests and write answers by the library's own functions, and keep what they are told: setpoint, gain, init step,
  * calibration, address and baud rate. A line of bad quality can be had by the options. */
@@ -30,8 +30,9 @@ enum { DATA_SIZE = 1, UNKNOWN_COMMAND = 2, PARAMETER = 4, INVALID_CALIBRATION = 
 
 static const char help[] =
     "usage: rack [options]\n"
-    "Prints the name of a pseudo-terminal and answers there as 24 controllers, addresses 0 to 23, until SIGTERM or SIGINT;\n"
+    "Prints the name of a pseudo-terminal and answers there as controllers, 24 at addresses 0 to 23, until SIGTERM or SIGINT;\n"
     "then prints what it did. RATE is a chance such as 0.01, or 1/100 for exactly every 100th.\n"
+    "  --controllers N answer as N controllers, addresses from 0 on (1 to 255, default 24)\n"
     "  --drop RATE     lose a byte of an answer\n"
     "  --flip RATE     flip a bit of a byte of an answer\n"
     "  --noise RATE    put random bytes before, inside or behind an answer\n"
@@ -70,7 +71,8 @@ struct waiting {
 };
 
 struct rack {
-    struct controller controllers[RACK];
+    struct controller controllers[MOST_CONTROLLERS];
+    long count;                  /* of them that are there */
     struct damage damage;
     int damage_requests, echo;
     long delay_ms, seconds;
@@ -102,7 +104,7 @@ static int64_t now_ms(void)
 
 static void power_up(struct rack *rack)
 {
-    for (uint8_t i = 0; i < RACK; i++) {
+    for (uint8_t i = 0; i < rack->count; i++) {
         struct controller *c = &rack->controllers[i];
 
         c->first = c->address = i;
@@ -253,7 +255,7 @@ static uint8_t sender(struct rack *rack, uint8_t address)
     if (!strikes(&rack->damage, &rack->damage.wrong))
         return address;
     rack->damaged++;
-    return (uint8_t)((address + 1) % RACK);
+    return (uint8_t)((address + 1) % rack->count);
 }
 
 static void answer(struct rack *rack, mfc_request asked, struct said said)
@@ -342,7 +344,7 @@ static void serve(struct rack *rack, const uint8_t *body, size_t n)
     if (asked.refusal != 0 && code == 0)
         return;
     rack->requests++;
-    for (size_t i = 0; i < RACK; i++) {
+    for (long i = 0; i < rack->count; i++) {
         struct controller *c = &rack->controllers[i];
         struct said said;
 
@@ -504,6 +506,8 @@ static int read_options(struct rack *rack, int argc, char **argv)
             good = rack->damage_requests = 1;
         } else if (strcmp(option, "--echo") == 0) {
             good = rack->echo = 1;
+        } else if (strcmp(option, "--controllers") == 0) {
+            good = read_number(argv[++i], 1, MOST_CONTROLLERS, &rack->count);
         } else if (strcmp(option, "--delay") == 0) {
             good = read_number(argv[++i], 1, 10000, &rack->delay_ms);
         } else if (strcmp(option, "--seconds") == 0) {
@@ -535,6 +539,7 @@ int main(int argc, char **argv)
 {
     static struct rack rack;
 
+    rack.count = RACK;
     rack.delay_ms = 300;
     rack.damage.state = 1;
     if (argc == 2 && strcmp(argv[1], "--help") == 0) {

@@ -5,6 +5,7 @@
 #include <stdint.h>
 
 #define RACK 24
+#define MOST_CONTROLLERS 255
 #define CALIBRATIONS 32u
 
 /* Two of three places hold a calibration. */
@@ -33,7 +34,7 @@ static inline uint32_t true_measured(uint8_t address)
 
 static inline uint32_t true_raw_flow(uint8_t address)
 {
-    return 0x1100u + address * 257u;
+    return (0x1100u + address * 257u) % 0x10000u;
 }
 
 static inline uint32_t true_raw_conductivity(uint8_t address)
