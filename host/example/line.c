@@ -12,7 +12,7 @@
 /* Bytes may keep coming on a line that never falls silent: after so many timeouts one question is over anyway. */
 #define LONGEST 5
 
-static int64_t now_ms(void)
+int64_t now_ms(void)
 {
     struct timespec t;
 

@@ -57,4 +57,7 @@ size_t line_next(struct line *line, uint8_t *refusal);
 
 void line_close(struct line *line);
 
+/* Milliseconds of a clock that nobody sets. */
+int64_t now_ms(void);
+
 #endif

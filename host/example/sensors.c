@@ -1,6 +1,7 @@
 #include "sensors.h"
 
 #include "bus.h"
+#include "handover.h"
 
 #define TRIES 20                 /* of a register that is read over a bad bus */
 
@@ -50,13 +51,26 @@ static struct reading read_scaled(uint8_t device, uint8_t start, size_t count, s
 
 /* ---- the SFC6 ---- */
 
-static int order_sfc6(uint16_t code, uint32_t concentration)
+/* 001, section 3.1 */
+int is_sfc6(uint8_t device)
+{
+    return (device >= 0x20 && device <= 0x24) || device == 0x41 || device == 0x42;
+}
+
+/* The one way by which a command goes to an SFC6, so that the handover board is told of each that is acknowledged. */
+static int order_sfc6(uint8_t device, uint16_t code, uint32_t concentration, uint32_t lease)
 {
     uint8_t out[5];
     mfc_written written = mfc_write_sfc6(code, concentration, out, sizeof out);
 
-    return written.refusal == 0 && bus_write(SFC6_DEVICE, out, written.length);
+    if (written.refusal != 0 || !bus_write(device, out, written.length))
+        return 0;
+    handover_acknowledged(device, code, lease);
+    return 1;
 }
+
+int sfc6_shut(uint8_t device, uint32_t lease) { return order_sfc6(device, MFC_SFC6_SHUT_VALVE, 0, lease); }
+int sfc6_return(uint8_t device) { return order_sfc6(device, MFC_SFC6_NORMAL_CONTROL, 0, NO_LEASE); }
 
 struct reading sfc6_flow(void)
 {
@@ -67,10 +81,10 @@ struct reading sfc6_temperature(void)
 {
     struct reading reading = { 0, 0, 0, 0, 0, 0 };
 
-    if (order_sfc6(MFC_SFC6_POINT_TO_TEMPERATURE, 0))
+    if (order_sfc6(SFC6_DEVICE, MFC_SFC6_POINT_TO_TEMPERATURE, 0, NO_LEASE))
         reading = read_scaled(SFC6_DEVICE, MFC_START_SFC6, 1, sfc6_temperature_scale);
     /* Back at the flow, whatever came of it. */
-    if (!order_sfc6(MFC_SFC6_POINT_BACK, 0))
+    if (!order_sfc6(SFC6_DEVICE, MFC_SFC6_POINT_BACK, 0, NO_LEASE))
         reading.acknowledged = 0;
     return reading;
 }
@@ -123,7 +137,7 @@ static int select_field(uint32_t field)
 
 const char *sensors_start(uint32_t concentration, uint32_t field)
 {
-    if (!order_sfc6(MFC_SFC6_START_MIXTURE0, concentration))
+    if (!order_sfc6(SFC6_DEVICE, MFC_SFC6_START_MIXTURE0, concentration, NO_LEASE))
         return "the SFC6 does not start: check its plug, its address and the concentration (0 to 1000)";
     if (!select_field(field))
         return "the liquid sensor's calibration field cannot be set: check its plug, its address and the field (0 to 4)";

@@ -23,6 +23,14 @@ struct reading {
    or what to tell the user. */
 const char *sensors_start(uint32_t concentration, uint32_t field);
 
+/* Whether an SFC6 can have this address: 24, or one of six others by a resistor at its plug. */
+int is_sfc6(uint8_t device);
+
+/* Forces the valve of an SFC6 shut, for so many polls on the handover board, and gives it back to normal control. Both return 0 where
+   the device does not acknowledge, and need a measurement that runs. */
+int sfc6_shut(uint8_t device, uint32_t lease);
+int sfc6_return(uint8_t device);
+
 /* The readings: flow in litres and in millilitres a minute, temperature in degrees Celsius. */
 struct reading sfc6_flow(void);
 struct reading sfc6_temperature(void);

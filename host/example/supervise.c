@@ -1,11 +1,14 @@
-/* supervise: polls a rack of mass flow controllers, and the sensors of an I2C bus beside it, and prints one line for each.
+/* supervise: polls a rack of mass flow controllers, and the sensors of an I2C bus beside it, and prints one line for each; takes
+ * orders from a console, and shows the handover board after each round.
  *
  * It uses no heap: all it holds is static, and stdout gets a buffer of its own. */
 #define _POSIX_C_SOURCE 200809L
+#include "answers.h"
 #include "board.h"
+#include "handover.h"
 #include "line.h"
+#include "orders.h"
 #include "sensors.h"
-#include "words.h"
 
 #include <errno.h>
 #include <signal.h>
@@ -16,31 +19,38 @@
 #define RACK 24
 #define CONCENTRATION 250        /* per mille of gas 0 in gas 1, for the SFC6 of the board */
 #define FIELD 1                  /* the calibration field of its liquid sensor */
+#define LINES_AT_ONCE 40         /* of the console: more of them wait for the next round, so that the rack is polled */
 
 /* The exit status says what to look at. */
-enum { ALL_ANSWERED = 0, SOME_REFUSED = 1, USAGE = 2, NO_LINE = 3 };
+enum { ALL_WELL = 0, SOME_REFUSED = 1, USAGE = 2, NO_LINE = 3 };
 
 static const char help[] =
-    "usage: supervise [--rounds N] [--timeout MS] [--board RATE] [--show] DEVICE\n"
-    "Polls the controllers 0 to 23 on a serial line (115,200 baud, 8N1) for measured value and calibration.\n"
+    "usage: supervise [--rounds N] [--every S] [--timeout MS] [--board RATE] [--console] [--show] DEVICE\n"
+    "Polls the controllers 0 to 23 on a serial line (115,200 baud, 8N1) for measured value and calibration. Shows the handover board\n"
+    "after each round: what this program forced shut or loaded until a restart, and the polls (rounds) until it is due.\n"
     "  --rounds N    poll the rack N times (1 to 1000000, default 1)\n"
+    "  --every S     begin a round every S seconds (0 to 3600, default 0, one round after the other)\n"
     "  --timeout MS  take the line as silent after MS without a byte (1 to 10000, default 200, the maker's limit)\n"
     "  --board RATE  poll the two sensors of a simulated I2C board too; a bit of a byte read flips at this RATE, a chance such as\n"
     "                0.01, 1/100 for exactly every 100th, or 0 for none\n"
+    "  --console     take orders from standard input, before each round and between rounds\n"
     "  --show        print the body of each answer, with its checksum\n"
     "  --help        print this\n"
-    "Exit status: 0 all answered, 1 some refused or silent, 2 wrong usage, 3 no line or bus, or line lost.\n";
+    "Exit status: 0 all answered, 1 some refused, silent, not done or not on the board, 2 wrong usage, 3 no line or bus, or line lost.\n";
 
 struct options {
     long rounds;
+    long every;                  /* seconds */
     long timeout_ms;
-    int board, show;
+    int board, console, show;
     struct rate flip;            /* of the board's bus */
     const char *device;
 };
 
-struct counts {
-    unsigned long polls, answered, refused, silent;
+struct results {
+    struct counts line, bus;     /* of the polls */
+    unsigned long undone;        /* orders that were not done */
+    unsigned long damaged;       /* the simulated bus's reads before the first poll */
 };
 
 static volatile sig_atomic_t stop;
@@ -75,6 +85,9 @@ static int read_options(int argc, char **argv, struct options *options)
         if (strcmp(argv[i], "--rounds") == 0) {
             if (!number(argv[++i], 1, 1000000, &options->rounds))
                 return wrong_usage("takes a number from 1 to 1000000", "--rounds");
+        } else if (strcmp(argv[i], "--every") == 0) {
+            if (!number(argv[++i], 0, 3600, &options->every))
+                return wrong_usage("takes seconds from 0 to 3600", "--every");
         } else if (strcmp(argv[i], "--timeout") == 0) {
             if (!number(argv[++i], 1, 10000, &options->timeout_ms))
                 return wrong_usage("takes milliseconds from 1 to 10000", "--timeout");
@@ -82,6 +95,8 @@ static int read_options(int argc, char **argv, struct options *options)
             options->board = 1;
             if (!read_rate(argv[++i], &options->flip))
                 return wrong_usage("takes a rate such as 0.01 or 1/100", "--board");
+        } else if (strcmp(argv[i], "--console") == 0) {
+            options->console = 1;
         } else if (strcmp(argv[i], "--show") == 0) {
             options->show = 1;
         } else if (argv[i][0] == '-') {
@@ -95,64 +110,24 @@ static int read_options(int argc, char **argv, struct options *options)
     return options->device != NULL || wrong_usage("give the serial device", "DEVICE");
 }
 
-/* Prints what became of one question, and counts it. */
-static void print_answer(struct answer answer, struct counts *counts)
+static struct answer ask(struct plant *plant, uint8_t address, uint8_t request)
 {
-    char text[32];
-    mfc_reply reply = answer.reply;
+    struct answer answer = handover_ask(&plant->line, address, request, 0, NO_LEASE);
 
-    counts->polls++;
-    if (answer.ending == SILENT || answer.ending == NOISE) {
-        counts->silent++;
-        (void)printf("no answer (%s)", answer.ending == SILENT
-                     ? "check the controller's power, address and baud rate"
-                     : "only noise: check the cable, its 120 ohm terminations and the baud rate");
-    } else if (answer.ending == ANSWERED && reply.reply == MFC_REPLY_MEASURED_VALUE) {
-        counts->answered++;
-        reading_words(reply.value, text, sizeof text);
-        (void)printf("%s", text);
-    } else if (answer.ending == ANSWERED) {
-        counts->answered++;
-        (void)printf("%lu", (unsigned long)reply.value);
-    } else {
-        counts->refused++;
-        (void)printf("refused %u (", reply.refusal);
-        if (reply.refusal == MFC_REFUSAL_DEVICE_ERROR)
-            (void)printf("controller reports error %u, %s: %s)", reply.code, code_words(reply.code), code_advice(reply.code));
-        else
-            (void)printf("%s: %s)", refusal_words(reply.refusal), refusal_advice(reply.refusal));
-    }
-}
-
-/* Prints the body of an answer; its last byte is the checksum of those before it. */
-static void show_body(const uint8_t *body, size_t n)
-{
-    if (n == 0)
-        return;
-    (void)printf("heard");
-    for (size_t i = 0; i + 1 < n; i++)
-        (void)printf(" %02X", body[i]);
-    (void)printf(", checksum %02X\n", mfc_checksum(body, n - 1));
-}
-
-static struct answer ask(struct line *line, uint8_t address, uint8_t request, int show)
-{
-    struct answer answer = line_ask(line, address, request, 0);
-
-    if (show)
-        show_body(line->frame, answer.length);
+    if (plant->show)
+        print_body(&plant->line, answer);
     return answer;
 }
 
 /* One line for one controller. Returns 0 if the line is gone. */
-static int poll_controller(struct line *line, uint8_t address, int show, struct counts *counts)
+static int poll_controller(struct plant *plant, uint8_t address, struct counts *counts)
 {
-    struct answer measured = ask(line, address, MFC_REQUEST_MEASURED_VALUE, show);
+    struct answer measured = ask(plant, address, MFC_REQUEST_MEASURED_VALUE);
     struct answer calibration;
 
     if (measured.ending == LINE_GONE)
         return 0;
-    calibration = ask(line, address, MFC_REQUEST_GET_CALIBRATION, show);
+    calibration = ask(plant, address, MFC_REQUEST_GET_CALIBRATION);
     if (calibration.ending == LINE_GONE)
         return 0;
     (void)printf("controller %2u: measured ", address);
@@ -161,31 +136,6 @@ static int poll_controller(struct line *line, uint8_t address, int show, struct 
     print_answer(calibration, counts);
     (void)printf("\n");
     return 1;
-}
-
-/* Prints what became of one reading of a sensor, and counts it. */
-static void print_reading(struct reading reading, const char *unit, struct counts *counts)
-{
-    char text[32];
-
-    counts->polls++;
-    if (!reading.acknowledged) {
-        counts->silent++;
-        (void)printf("no answer (check the sensor's plug, power and address)");
-    } else if (reading.refusal == 0) {
-        counts->answered++;
-        thousandths_words(reading.thousandths, text, sizeof text);
-        (void)printf("%s %s", text, unit);
-    } else {
-        counts->refused++;
-        (void)printf("refused %u (", reading.refusal);
-        if (reading.refusal == MFC_REFUSAL_WRONG_CRC)
-            (void)printf("word %lu has CRC %02X and should have %02X: ", (unsigned long)reading.word, reading.crc,
-                         reading.right_crc);
-        else
-            (void)printf("%s: ", refusal_words(reading.refusal));
-        (void)printf("%s)", refusal_advice(reading.refusal));
-    }
 }
 
 /* One line for one sensor. */
@@ -199,7 +149,7 @@ static void print_sensor(const char *name, struct reading flow, const char *unit
     (void)printf("\n");
 }
 
-static void poll_board(struct counts *counts)
+static void poll_sensors(struct counts *counts)
 {
     struct reading flow = sfc6_flow();
 
@@ -208,17 +158,64 @@ static void poll_board(struct counts *counts)
     print_sensor("liquid", flow, "ml/min", liquid_temperature(), counts);
 }
 
-/* Returns 0 if the line is gone. */
-static int poll_rounds(struct line *line, const struct options *options, struct counts *counts, struct counts *board)
+/* Carries out the orders that are there. Returns 0 if the line is gone. */
+static int take_orders(struct plant *plant, unsigned long *undone)
 {
-    for (long round = 0; round < options->rounds && !stop; round++) {
-        for (uint8_t address = 0; address < RACK && !stop; address++)
-            if (!poll_controller(line, address, options->show, counts))
-                return 0;
-        if (options->board)
-            poll_board(board);
+    struct order order;
+
+    for (int lines = 0; lines < LINES_AT_ONCE && !stop && console_next(&order); lines++) {
+        enum outcome outcome = carry_out(plant, &order);
+
+        if (outcome == ORDER_LINE_GONE)
+            return 0;
+        *undone += outcome == ORDER_NOT_DONE;
     }
     return 1;
+}
+
+/* Takes orders until the next round's time has come, at least once. Returns 0 if the line is gone. */
+static int await_round(struct plant *plant, int64_t next, unsigned long *undone)
+{
+    for (;;) {
+        int64_t left;
+
+        if (!take_orders(plant, undone))
+            return 0;
+        left = next - now_ms();
+        if (left <= 0 || stop)
+            return 1;
+        (void)console_wait((int)left);
+    }
+}
+
+/* Returns 0 if the line is gone. */
+static int poll_rack(struct plant *plant, struct counts *counts)
+{
+    for (uint8_t address = 0; address < RACK && !stop; address++)
+        if (!poll_controller(plant, address, counts))
+            return 0;
+    return 1;
+}
+
+/* A round that is broken off takes no poll from the board, and shows it all the same. Returns 0 if the line is gone. */
+static int poll_rounds(struct plant *plant, const struct options *options, struct results *results)
+{
+    int64_t next = now_ms();
+    int there = 1;
+
+    for (long round = 0; round < options->rounds && there && !stop; round++) {
+        there = await_round(plant, next, &results->undone);
+        next = now_ms() + options->every * 1000;
+        there = there && poll_rack(plant, &results->line);
+        if (there && !stop) {
+            if (plant->bus)
+                poll_sensors(&results->bus);
+            handover_poll();
+            console_round();
+        }
+        handover_print();
+    }
+    return there;
 }
 
 /* A signal ends the program between two controllers; poll and read then see EINTR. */
@@ -233,47 +230,73 @@ static void stop_on_signals(void)
     (void)sigaction(SIGTERM, &action, NULL);
 }
 
+/* Opens what the options name. Returns 0, and tells the user, where that fails. */
+static int open_plant(struct plant *plant, const struct options *options)
+{
+    const char *what = "--console", *fault = options->console ? console_start() : NULL;
+
+    if (fault == NULL) {
+        what = options->device;
+        fault = line_open(&plant->line, options->device, (int)options->timeout_ms);
+    }
+    if (fault == NULL && options->board) {
+        what = "the I2C bus";
+        board_damage(options->flip);
+        fault = sensors_start(CONCENTRATION, FIELD);
+        if (fault != NULL)
+            line_close(&plant->line);
+    }
+    plant->bus = options->board;
+    plant->show = options->show;
+    if (fault != NULL)
+        (void)fprintf(stderr, "supervise: %s: %s\n", what, fault);
+    return fault == NULL;
+}
+
+static void print_results(const struct plant *plant, const struct results *results)
+{
+    const struct counts *line = &results->line, *bus = &results->bus;
+
+    if (plant->bus)
+        (void)printf("readings %lu, answered %lu, refused %lu, no answer %lu, damaged %lu\n",
+                     bus->polls, bus->answered, bus->refused, bus->silent, board_damaged() - results->damaged);
+    (void)printf("polls %lu, answered %lu, refused %lu, no answer %lu, stray bytes %lu\n",
+                 line->polls, line->answered, line->refused, line->silent, plant->line.stray);
+}
+
+static int all_well(const struct results *results)
+{
+    return results->line.answered == results->line.polls && results->bus.answered == results->bus.polls
+        && results->undone == 0 && console_misunderstood() == 0 && handover_is_whole();
+}
+
 int main(int argc, char **argv)
 {
-    static struct line line;
+    static struct plant plant;
     static char out[4096];
-    struct options options = { 1, 200, 0, 0, { 0, 0, 0 }, NULL };
-    struct counts counts = { 0, 0, 0, 0 }, board = { 0, 0, 0, 0 };
-    unsigned long damaged;
-    const char *fault;
+    struct options options = { 1, 0, 200, 0, 0, 0, { 0, 0, 0 }, NULL };
+    struct results results = { { 0, 0, 0, 0 }, { 0, 0, 0, 0 }, 0, 0 };
+    int there;
 
     (void)setvbuf(stdout, out, _IOLBF, sizeof out);
     if (argc == 2 && strcmp(argv[1], "--help") == 0) {
         (void)fputs(help, stdout);
-        return ALL_ANSWERED;
+        (void)fputs(console_help, stdout);
+        return ALL_WELL;
     }
     if (!read_options(argc, argv, &options))
         return USAGE;
     stop_on_signals();
-    fault = line_open(&line, options.device, (int)options.timeout_ms);
-    if (fault != NULL) {
-        (void)fprintf(stderr, "supervise: %s: %s\n", options.device, fault);
+    if (!open_plant(&plant, &options))
         return NO_LINE;
-    }
-    board_damage(options.flip);
-    fault = options.board ? sensors_start(CONCENTRATION, FIELD) : NULL;
-    if (fault != NULL) {
-        (void)fprintf(stderr, "supervise: the I2C bus: %s\n", fault);
-        line_close(&line);
-        return NO_LINE;
-    }
-    damaged = board_damaged();
-    if (!poll_rounds(&line, &options, &counts, &board)) {
-        (void)fflush(stdout);
+    results.damaged = board_damaged();
+    there = poll_rounds(&plant, &options, &results);
+    handover_end();
+    if (there)
+        print_results(&plant, &results);
+    (void)fflush(stdout);
+    if (!there)
         (void)fprintf(stderr, "supervise: %s: the line is gone: check the adapter's plug, then start again\n", options.device);
-        line_close(&line);
-        return NO_LINE;
-    }
-    if (options.board)
-        (void)printf("readings %lu, answered %lu, refused %lu, no answer %lu, damaged %lu\n",
-                     board.polls, board.answered, board.refused, board.silent, board_damaged() - damaged);
-    (void)printf("polls %lu, answered %lu, refused %lu, no answer %lu, stray bytes %lu\n",
-                 counts.polls, counts.answered, counts.refused, counts.silent, line.stray);
-    line_close(&line);
-    return counts.answered == counts.polls && board.answered == board.polls ? ALL_ANSWERED : SOME_REFUSED;
+    line_close(&plant.line);
+    return !there ? NO_LINE : all_well(&results) ? ALL_WELL : SOME_REFUSED;
 }

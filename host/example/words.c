@@ -16,8 +16,8 @@ struct word {
 #define PROGRAM "a fault of this program: report it"
 
 static const struct word refusals[] = {
-    { MFC_REFUSAL_NO_ROOM, "lent room too small", PROGRAM },
-    { MFC_REFUSAL_BAD_RECORD, "receiver record damaged", PROGRAM },
+    { MFC_REFUSAL_NO_ROOM, "lent room too small, or a table not of 32 places", PROGRAM },
+    { MFC_REFUSAL_BAD_RECORD, "receiver record or board's table damaged", PROGRAM },
     { MFC_REFUSAL_BAD_ESCAPE, "escape byte broken", CABLE },
     { MFC_REFUSAL_BARE_CONTROL, "bare XON or XOFF byte", "switch off software flow control in the adapter, then poll again" },
     { MFC_REFUSAL_BODY_TOO_LONG, "answer too long", CABLE },
@@ -34,6 +34,8 @@ static const struct word refusals[] = {
     { MFC_REFUSAL_BAD_WORD_COUNT, "no words, or a part of one", PROGRAM },
     { MFC_REFUSAL_WRONG_CRC, "CRC wrong", "check the bus cable and its pull-ups, then poll again" },
     { MFC_REFUSAL_BAD_SCALE, "scale out of its range", PROGRAM },
+    { MFC_REFUSAL_BOARD_FULL, "all 32 places of the board are held",
+      "write it down by hand, close another entry, then give the order again" },
 };
 
 static const struct word codes[] = {
