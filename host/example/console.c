@@ -217,9 +217,10 @@ static int read_wait(char **word, struct order *order)
     return 1;
 }
 
-#define SFC6_ADDRESS "the address of an SFC6 is 20 to 24, 41 or 42, in hexadecimal"
-#define CONTROLLER "a controller is 0 to 254"
-#define POLLS "1 to 65535 polls"
+#define CONTROLLER "controller 0 to 254"
+#define CALIBRATION "calibration 0 to 4294967295"
+#define SFC6_ADDRESS "address 20 to 24, 41 or 42 in hexadecimal"
+#define POLLS "polls 1 to 65535"
 
 static const struct form {
     const char *name;
@@ -228,12 +229,14 @@ static const struct form {
     int (*read)(char **word, struct order *order);
     const char *advice;
 } forms[] = {
-    { "load", LOAD, 4, read_load, "write load CONTROLLER CALIBRATION POLLS, such as load 7 3 120 (" CONTROLLER ", " POLLS ")" },
-    { "set", SET, 3, read_set, "write set CONTROLLER CALIBRATION, such as set 7 0 (" CONTROLLER ")" },
+    { "load", LOAD, 4, read_load,
+      "write load CONTROLLER CALIBRATION POLLS, such as load 7 3 120 (" CONTROLLER ", " CALIBRATION ", " POLLS ")" },
+    { "set", SET, 3, read_set, "write set CONTROLLER CALIBRATION, such as set 7 0 (" CONTROLLER ", " CALIBRATION ")" },
     { "shut", SHUT, 3, read_shut, "write shut ADDRESS POLLS, such as shut 24 60 (" SFC6_ADDRESS ", " POLLS ")" },
     { "return", RETURN, 2, read_return, "write return ADDRESS, such as return 24 (" SFC6_ADDRESS ")" },
-    { "restarted", RESTARTED, 3, read_restarted, "write restarted serial 7 (0 to 254) or restarted i2c 24 (0 to 7F, in hexadecimal)" },
-    { "wait", NOTHING, 2, read_wait, "write wait ROUNDS, such as wait 3 (1 to 1000000 rounds)" },
+    { "restarted", RESTARTED, 3, read_restarted,
+      "write restarted serial 7 (0 to 254) or restarted i2c 24 (0 to 7F in hexadecimal)" },
+    { "wait", NOTHING, 2, read_wait, "write wait ROUNDS, such as wait 3 (rounds 1 to 1000000)" },
 };
 
 static const struct form *find_form(const char *name)
