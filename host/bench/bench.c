@@ -8,6 +8,8 @@
  *
  * Where the code lies moves the times of short calls by up to a third: bench/table puts the rows of several placements together. */
 #define _POSIX_C_SOURCE 200809L
+#include "bench.h"
+#include "bench_board.h"
 #include "mfc.h"
 #include "plain.h"
 #include "stack.h"
@@ -28,8 +30,7 @@ static struct poll polls[POLLS];
 static uint8_t letters[255], specials[254];   /* 255 letters are one too many */
 static uint8_t sfc6_words[9], liquid_words[9];
 
-/* Answers go here, so that no compiler may leave a job out. */
-static volatile size_t sink;
+volatile size_t sink;
 
 /* ---- the jobs ---- */
 
@@ -146,9 +147,6 @@ static void read_plain(void)
     sink = sum;
 }
 
-/* Short calls are made in a row, each on other bytes, so that the clock's own cost does not count. */
-#define ROW 64
-
 static size_t crc_n, crc_row;
 
 static void crc_library(void)
@@ -212,7 +210,7 @@ static void words_folded(void)
 
 static unsigned long compared, unlike;
 
-static void compare(int same, const char *what)
+void compare(int same, const char *what)
 {
     compared++;
     if (!same && unlike++ < 10)
@@ -402,6 +400,7 @@ static void compare_all(void)
     }
     compare_words(0xFF, sfc6_words);
     compare_words(0x00, liquid_words);
+    compare_boards();
 }
 
 /* ---- the clock ---- */
@@ -446,8 +445,7 @@ static double median(double *values_of)
     return values_of[SLICES / 2];
 }
 
-/* One line of the table; `units` is how many of `unit` one run does. */
-static void measure(const char *name, const char *unit, size_t units, void (*library)(void), void (*plain)(void))
+void measure(const char *name, const char *unit, size_t units, void (*library)(void), void (*plain)(void))
 {
     static double one[SLICES], other[SLICES], ratio[SLICES];
     unsigned library_times = times_for(library), plain_times = times_for(plain);
@@ -510,6 +508,7 @@ static void measure_all(void)
     measure_crc("CRC of 65,536 bytes, C with a table", "CRC of 65,536 bytes, C without a table", TRAFFIC, 1);
     measure("read three words, C with a table", "call", ROW, words_library, words_plain);
     measure("read three words, C without a table", "call", ROW, words_library, words_folded);
+    measure_boards();
 }
 
 /* ---- the stack ---- */
@@ -634,7 +633,9 @@ static void print_stacks(void)
         { "mfc_feed", use_feed }, { "mfc_silence", use_silence }, { "mfc_read_words", use_read_words },
         { "mfc_write_words", use_write_words }, { "mfc_write_sfc6", use_write_sfc6 }, { "mfc_write_liquid", use_write_liquid },
         { "mfc_edit_user", use_edit_user }, { "mfc_edit_advanced", use_edit_advanced }, { "mfc_scaled", use_scaled },
-        { "mfc_scaled_float", use_scaled_float },
+        { "mfc_scaled_float", use_scaled_float }, { "mfc_board_open", use_board_open }, { "mfc_board_close", use_board_close },
+        { "mfc_board_restart", use_board_restart }, { "mfc_board_poll", use_board_poll }, { "mfc_board_list", use_board_list },
+        { "mfc_board_reply", use_board_reply }, { "mfc_board_acknowledged", use_board_acknowledged },
     };
 
     lay_bodies();
@@ -661,6 +662,7 @@ int main(int argc, char **argv)
     good_words(0xFF, sfc6_words, 3);
     good_words(0x00, liquid_words, 3);
     good_words(0xFF, row_of_words, 3 * ROW);
+    lay_boards();
     for (size_t i = 0; i < sizeof letters; i++)
         letters[i] = (uint8_t)('A' + i % 26);
     for (size_t i = 0; i < sizeof specials; i++)
