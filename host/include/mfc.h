@@ -60,7 +60,7 @@ enum {
 
 /* Refusals. */
 enum {
-    /* lent room is less than this answer needs. */
+    /* lent room is less than this answer needs; a board's table not of 32 places. */
     MFC_REFUSAL_NO_ROOM = 1,
     /* receiver record outside its ranges; a board's table with an entry out of range, or with a
      * node and kind twice. */
@@ -276,9 +276,9 @@ typedef struct {
 
 /* A place of the handover board's table. In a free place all numbers are 0. */
 typedef struct {
-    /* 0 for a free place, or one of MFC_ENTRY_.. */
+    /* 0 for a free place, or one of MFC_ENTRY_* */
     uint8_t kind;
-    /* One of MFC_BUS_.. */
+    /* One of MFC_BUS_* */
     uint8_t bus;
     /* 0 to 254 on the serial bus, 0 to 127 on I2C. */
     uint8_t address;
@@ -286,7 +286,7 @@ typedef struct {
     uint16_t left;
 } mfc_entry;
 
-/* What listing answers: the refusal's number, 0 for none, and how many entries there are. */
+/* What listing answers. */
 typedef struct {
     /* The refusal's number, 0 for none. */
     uint8_t refusal;
@@ -415,15 +415,16 @@ uint8_t mfc_board_open(mfc_entry *table, size_t places, uint8_t bus, uint8_t add
                        uint8_t kind, uint32_t lease);
 
 /* Closes the entry of a node and kind; where there is none, nothing is done. Refusals, in their
- * order: 1, 2, 12. */
+ * order: 1, 2 and 12 as for mfc_board_open. */
 uint8_t mfc_board_close(mfc_entry *table, size_t places, uint8_t bus, uint8_t address,
                         uint8_t kind);
 
-/* A node has restarted: both its entries are closed. Refusals, in their order: 1, 2, 12. */
+/* A node has restarted: both its entries are closed. Refusals, in their order: 1, 2 and 12 as
+ * for mfc_board_open. */
 uint8_t mfc_board_restart(mfc_entry *table, size_t places, uint8_t bus, uint8_t address);
 
 /* One poll: it takes one from every lease above 0. An entry with 0 left is due, and stays so
- * until it is closed or renewed. Refusals, in their order: 1, 2. */
+ * until it is closed or renewed. Refusals, in their order: 1 and 2 as for mfc_board_open. */
 uint8_t mfc_board_poll(mfc_entry *table, size_t places);
 
 /* Lists the entries by bus (serial first), address and kind (valve first) at the start of the
@@ -437,17 +438,18 @@ mfc_listed mfc_board_list(const mfc_entry *table, size_t places,
  * asked, and the refusal that mfc_read_reply answered. An accepted volatile calibration
  * (command 46) opens the calibration entry of the address for a lease of polls, an accepted set
  * calibration (45) closes it; all else concerns no entry, changes nothing and is answered 0
- * where the table is good. Refusals, in their order: 1, 2, 12 (for a request over 20; for the
- * address where an entry is to be opened or closed, for the lease where one is to be opened),
- * 19. */
+ * where the table is good. Refusals, in their order: 1 and 2 as for mfc_board_open; 12 for a
+ * request over 20, for an address out of range where an entry is to be opened or closed, and
+ * for a lease out of range where one is to be opened; 19 where it is new and all places are
+ * held. */
 uint8_t mfc_board_reply(mfc_entry *table, size_t places, uint8_t address, uint8_t request,
                         uint8_t refusal, uint32_t lease);
 
 /* To be called after every command that an SFC6 on I2C has acknowledged, with its code: 3FEF
  * opens the valve entry of the address for a lease of polls, 3F6E closes it, the other codes of
- * MFC_SFC6_.. concern no entry. Refusals, in their order: 1, 2, 12 (for any other code; for the
- * address where an entry is to be opened or closed, for the lease where one is to be opened),
- * 19. */
+ * MFC_SFC6_* concern no entry. Refusals, in their order: 1 and 2 as for mfc_board_open; 12 for
+ * any other code, for an address out of range where an entry is to be opened or closed, and for
+ * a lease out of range where one is to be opened; 19 where it is new and all places are held. */
 uint8_t mfc_board_acknowledged(mfc_entry *table, size_t places, uint8_t address, uint16_t code,
                                uint32_t lease);
 

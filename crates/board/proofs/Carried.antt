@@ -1,15 +1,13 @@
 -- What the plan of an order does is what the order does. Assumes nothing.
-use mathlib.Core.Path.{_≡_, refl, sym, _∙_, ap, subst}
-use Prim.Native.Nat.{ℕ, zero, suc, _+_, _-_, _<_, _≤_}
+use mathlib.Core.Path.{_≡_, sym, _∙_, ap, subst}
+use Prim.Native.Nat.{ℕ, _+_, _-_, _<_, _≤_}
 use native.Mathlib.Omega.{arith}
-use native.Mathlib.Numerals.{add-one}
-use mathlib.Core.Bool.{Bool, true, false, not, cond}
-use mathlib.Core.List.{List, [], _∷_, _++_, map, append-nil}
-use lib.Dec.{ltb, eqb}
-use lib.ListN.{length, set, getD, take, drop, drop-of-length-le}
-use lib.Seq.{drop-cons, take-all, set-split}
+use mathlib.Core.Bool.{Bool, true, false, not}
+use mathlib.Core.List.{List, map}
+use lib.ListN.{length, set, take}
+use lib.Seq.{take-all}
 use borrow.Author.Tests.{eq-eqb, ne-eqb, not-true, not-false}
-use Rattle.refusal.specs.Refusals.{number, paper, Answered, served, refused}
+use Rattle.refusal.specs.Refusals.{paper, served, refused}
 use Rattle.refusal.specs.declared.Refusal.{Refusal}
 use Rattle.refusal.specs.declared.Refusal.the-variants.{NoRoom, BadRecord, OutOfRange, BoardFull}
 use Rattle.board.specs.declared.entries.Kind.{Kind}
@@ -18,13 +16,13 @@ use Rattle.board.specs.declared.entries.Entry.{Entry}
 use Rattle.board.specs.declared.survey.Target.{Target}
 use Rattle.board.specs.declared.survey.Found.{Found}
 use Rattle.board.specs.declared.orders.Order.{Order}
-use Rattle.board.specs.declared.orders.Order.the-variants.{Open, Close, Restart, Poll, Unnamed, Nothing}
+use Rattle.board.specs.declared.orders.Order.the-variants.{Open}
 use Rattle.board.specs.declared.orders.Answer.{Answer}
 use Rattle.board.specs.declared.orders.Answer.the-variants as answer
 use Rattle.board.specs.declared.orders.Step.{Step}
 use Rattle.board.specs.declared.orders.Step.the-variants.{Put, Free, FreeNode}
 use Rattle.board.specs.declared.orders.Plan.{Plan}
-use Rattle.board.specs.Entries.{busNumber, entryOf, isFree, isOf, onNode, placeOf, holds, valid}
+use Rattle.board.specs.Entries.{busNumber, entryOf, isFree, isOf, onNode, placeOf, valid}
 use Rattle.board.specs.Orders.{Outcome, orderInRange, opened, freed, tick, done, change, paperAnswer, numberIf, numbered}
 use Rattle.board.specs.Private.{hasNumbers, foundIn, onNumbers, stepOf, steps, polledIn, targetOf, soughtBy, soughtIn, leftBy, Carries, Plans, Acts}
 use Rattle.board.proofs.Turns.{holds-at, holds-none}

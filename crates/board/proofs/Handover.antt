@@ -1,14 +1,14 @@
 -- 02 (i): the claim over every series of orders from the empty table. Assumes nothing.
 use mathlib.Core.Path.{_≡_, refl, sym, _∙_, ap, subst}
-use Prim.Native.Nat.{ℕ, zero, suc, _+_, _-_, _<_, _≤_}
+use Prim.Native.Nat.{ℕ, _+_, _-_, _<_, _≤_}
 use native.Mathlib.Omega.{arith}
-use mathlib.Core.Bool.{Bool, true, false, cond, not, _&&_, _||_}
-use mathlib.Core.List.{List, [], _∷_, _++_, map}
+use mathlib.Core.Bool.{Bool, true, false, cond, not, _&&_}
+use mathlib.Core.List.{List, [], _∷_, _++_}
 use mathlib.Core.Option.{Option, none, some}
-use lib.Dec.{ltb, leb, eqb}
-use lib.ListN.{length, set, replicate, length-set, length-map}
-use borrow.Author.Tests.{eq-eqb, ne-eqb, eqb-true, eqb-false, le-ltb, lt-leb, le-leb, leb-true, leb-false}
-use Rattle.refusal.specs.Refusals.{number, Answered, served, refused, inOrder}
+use lib.Dec.{leb, eqb}
+use lib.ListN.{length, set, length-set, length-map}
+use borrow.Author.Tests.{eq-eqb, ne-eqb, le-ltb, leb-true, leb-false}
+use Rattle.refusal.specs.Refusals.{number, Answered, served, refused}
 use Rattle.board.specs.declared.entries.Bus.{Bus}
 use Rattle.board.specs.declared.entries.Bus.the-variants.{Serial, I2c}
 use Rattle.board.specs.declared.entries.Kind.{Kind}
@@ -17,11 +17,11 @@ use Rattle.board.specs.declared.entries.Node.{Node}
 use Rattle.board.specs.declared.entries.Entry.{Entry}
 use Rattle.board.specs.declared.orders.Order.{Order}
 use Rattle.board.specs.declared.orders.Order.the-variants.{Open, Close, Restart, Poll, Unnamed, Nothing}
-use Rattle.board.specs.Entries.{nodeInRange, kindNumber, busNumber, entryOf, free, isFree, has, isOf, onNode, isKind, isNode, isClear, entryInRange, empty, placeOf, holds, found, count, again, valid}
-use Rattle.board.specs.Orders.{Outcome, orderInRange, leaseInRange, opened, freed, tick, done, orUnchanged, change}
+use Rattle.board.specs.Entries.{nodeInRange, kindNumber, busNumber, entryOf, isFree, has, isOf, onNode, isKind, isNode, isClear, entryInRange, empty, placeOf, holds, found, count, again, valid}
+use Rattle.board.specs.Orders.{Outcome, orderInRange, opened, freed, tick, done, orUnchanged, change}
 use Rattle.board.specs.Listing.{standingIn, listed, listAnswer, laid, list}
-use Rattle.board.specs.Series.{same, sameNode, polled, left, isDue, entryIf, standingAfter, held, isNone, isNew, answerTo, joined, carriedOut, answersTo, tableAfter, answers, concerns, Unconcerned, isPoll, pollsIn, lessBy, Handover}
-use Rattle.board.proofs.Tests.{true-not-false, and-left, and-right, kind-not-0}
+use Rattle.board.specs.Series.{same, polled, left, isDue, entryIf, standingAfter, held, isNone, isNew, answerTo, joined, carriedOut, answersTo, tableAfter, answers, Unconcerned, pollsIn, lessBy, Handover}
+use Rattle.board.proofs.Tests.{true-not-false, and-left, kind-not-0}
 use Rattle.board.proofs.Search.{isSome, holds-found}
 use Rattle.board.proofs.Kept.{change-lowest}
 use Rattle.board.proofs.Validity.{valid-polled, valid-freed, valid-renewed, valid-placed}

@@ -1,6 +1,6 @@
 -- What an order leaves of the places: as many, on a refusal the same, and a free place is taken only where no lower one is free. Assumes nothing.
-use mathlib.Core.Path.{_≡_, refl, sym, _∙_, ap, subst}
-use Prim.Native.Nat.{ℕ, zero, suc, _-_, _<_, _≤_}
+use mathlib.Core.Path.{_≡_, refl, sym, _∙_, ap}
+use Prim.Native.Nat.{ℕ, _-_, _<_}
 use native.Mathlib.Omega.{arith}
 use mathlib.Core.Bool.{Bool, true, false, not, cond}
 use mathlib.Core.List.{List, [], _∷_, map}
@@ -8,7 +8,7 @@ use lib.Dec.{eqb}
 use lib.ListN.{length, set, getD, length-set, length-map, List·getD-map}
 use lib.Seq.{getD-set-other}
 use borrow.Author.Tests.{eqb-true, eqb-false}
-use Rattle.refusal.specs.Refusals.{number, Answered, served, refused, inOrder}
+use Rattle.refusal.specs.Refusals.{number, served, refused, inOrder}
 use Rattle.board.specs.declared.entries.Kind.{Kind}
 use Rattle.board.specs.declared.entries.Node.{Node}
 use Rattle.board.specs.declared.entries.Entry.{Entry}
@@ -18,39 +18,6 @@ use Rattle.board.specs.Entries.{entryOf, free, isFree, isOf, onNode, pla
 use Rattle.board.specs.Orders.{Outcome, orderInRange, opened, freed, tick, done, orUnchanged, change}
 use Rattle.board.proofs.Tests.{true-not-false, free-not}
 use Rattle.board.proofs.Search.{at-place, before-place}
-
-abbrev pub isServed : Answered (Unit {0}) → Bool
-isServed (served u) = true
-isServed (refused n) = false
-
--- a refusal changes nothing
-opened-refused : (node : Node) (kind : Kind) (lease : ℕ) (t : List Entry) → isServed (opened node kind lease t .0) ≡ false → opened node kind lease t .1 ≡ t
-unfolding opened
-opened-refused node kind lease t = go (holds (isOf node kind) t) (holds isFree t)
-  where
-    go : (b c : Bool) → isServed (cond {A = Outcome} b (served tt, set t (placeOf (isOf node kind) t) (entryOf node kind lease)) (cond c (served tt, set t (placeOf isFree t) (entryOf node kind lease)) (refused (number 19), t)) .0) ≡ false
-        → cond {A = Outcome} b (served tt, set t (placeOf (isOf node kind) t) (entryOf node kind lease)) (cond c (served tt, set t (placeOf isFree t) (entryOf node kind lease)) (refused (number 19), t)) .1 ≡ t
-    go true c h = absurd (true-not-false h)
-    go false true h = absurd (true-not-false h)
-    go false false h = refl
-
-done-refused : (o : Order) (t : List Entry) → isServed (done o t .0) ≡ false → done o t .1 ≡ t
-done-refused (Open node kind lease) t h = opened-refused node kind lease t h
-done-refused (Close node kind) t h = absurd (true-not-false h)
-done-refused (Restart node) t h = absurd (true-not-false h)
-done-refused Poll t h = absurd (true-not-false h)
-done-refused Unnamed t h = absurd (true-not-false h)
-done-refused Nothing t h = absurd (true-not-false h)
-
-pub change-refused : (t : List Entry) (o : Order) → isServed (change t o .0) ≡ false → change t o .1 ≡ t
-unfolding change
-change-refused t o = go (not (eqb (length t) 32)) (not (valid t)) (not (orderInRange o))
-  where
-    go : (a b c : Bool) → isServed (orUnchanged (inOrder ((a, number 1) ∷ (b, number 2) ∷ (c, number 12) ∷ []) (done o t)) t .0) ≡ false → orUnchanged (inOrder ((a, number 1) ∷ (b, number 2) ∷ (c, number 12) ∷ []) (done o t)) t .1 ≡ t
-    go true b c h = refl
-    go false true c h = refl
-    go false false true h = refl
-    go false false false h = done-refused o t h
 
 -- ---- as many places
 opened-length : (node : Node) (kind : Kind) (lease : ℕ) (t : List Entry) → length (opened node kind lease t .1) ≡ length t
@@ -80,9 +47,6 @@ left-by P t o d s = go (not (eqb (length t) 32)) (not (valid t)) (not (orderInRa
     go false true c = s
     go false false true = s
     go false false false = d
-
-pub change-length : (t : List Entry) (o : Order) → length (change t o .1) ≡ length t
-change-length t o = left-by (λ (l : List Entry). length l ≡ length t) t o (done-length o t) refl
 
 -- ---- the lowest place first
 -- a place that was free and is held in another table has no free place before it

@@ -1,19 +1,16 @@
 -- What the small functions return, a law for each `return`. Assumes nothing.
-use mathlib.Core.Path.{_≡_, refl, sym, _∙_, ap}
-use Prim.Native.Nat.{ℕ, zero, suc, _-_, _<_, _≤_}
-use native.Mathlib.Omega.{arith}
-use mathlib.Core.Bool.{Bool, true, false, not, cond, _&&_, _||_}
-use mathlib.Core.List.{List, [], _∷_}
-use lib.Dec.{leb, ltb, eqb}
+use mathlib.Core.Path.{_≡_, sym, _∙_, ap}
+use Prim.Native.Nat.{ℕ, _-_, _<_, _≤_}
+use mathlib.Core.Bool.{Bool, true, false, cond}
+use lib.Dec.{leb, eqb}
 use borrow.Author.Tests.{eq-eqb, ne-eqb, le-leb, lt-leb}
-use Rattle.board.specs.declared.entries.Bus.{Bus}
 use Rattle.board.specs.declared.entries.Kind.{Kind}
 use Rattle.board.specs.declared.entries.Node.{Node}
 use Rattle.board.specs.declared.entries.Entry.{Entry}
 use Rattle.board.specs.declared.survey.Target.{Target}
 use Rattle.board.specs.declared.survey.Found.{Found}
 use Rattle.board.specs.declared.orders.Order.{Order}
-use Rattle.board.specs.Entries.{nodeInRange, busNumber, kindNumber, entryOf, free, isFree, has, isKind, isNode, isClear, entryInRange}
+use Rattle.board.specs.Entries.{busNumber, kindNumber, entryOf, free, has, isKind, isClear}
 use Rattle.board.specs.Orders.{leaseInRange, freed, tick}
 use Rattle.board.specs.Private.{nearer, onNumbers, targetOf, noTarget, soughtBy}
 
@@ -61,8 +58,8 @@ module _ (b a : ℕ) (e : Entry) {k : ℕ} {t : Bool} (z : k ≡ 1) (g : t ≡ h
 
 -- an entry and a target by a node and a kind
 module _ (node : Node) (kind : Kind) {k b : ℕ} (f : k ≡ kindNumber kind) (g : b ≡ busNumber (node .bus)) where
-  pub entry-is : (l : ℕ) → record { kind = k; bus = b; address = node .address; left = l } ≡ entryOf node kind l
-  entry-is l = λ i. record { kind = f i; bus = g i; address = node .address; left = l }
+  pub entry-is : (l : ℕ) → record { kind = k; bus = b; address = node .address; spare = 0; left = l } ≡ entryOf node kind l
+  entry-is l = λ i. record { kind = f i; bus = g i; address = node .address; spare = 0; left = l }
 
   pub target-is : record { kind = k; bus = b; address = node .address } ≡ targetOf node kind
   target-is = λ i. record { kind = f i; bus = g i; address = node .address }
@@ -84,23 +81,6 @@ module _ (n : ℕ) where
   unfolding isKind
   kind-other h = rw (ne-eqb _ _ h)
 
-  module _ (a : ℕ) where
-    or-none : (x : Bool) → x ≡ (x || false)
-    or-none true = refl
-    or-none false = refl
-
-    pub node-serial : n ≡ 0 → leb a 254 ≡ isNode n a
-    unfolding isNode
-    node-serial h = let u : n ≡ 1 → ⊥ = λ e. omega arith in rw (eq-eqb _ _ h, ne-eqb n 1 u) (or-none (leb a 254))
-
-    pub node-i2c : (n ≡ 0 → ⊥) → n ≡ 1 → leb a 127 ≡ isNode n a
-    unfolding isNode
-    node-i2c g h = rw (ne-eqb _ _ g, eq-eqb _ _ h)
-
-    pub node-none : (n ≡ 0 → ⊥) → (n ≡ 1 → ⊥) → false ≡ isNode n a
-    unfolding isNode
-    node-none g h = rw (ne-eqb _ _ g, ne-eqb _ _ h)
-
 module _ (e : Entry) where
   pub clear-bus : (e .bus ≡ 0 → ⊥) → false ≡ isClear e
   unfolding isClear
@@ -114,19 +94,7 @@ module _ (e : Entry) where
   unfolding isClear
   clear-left g h = rw (eq-eqb _ _ g, eq-eqb _ _ h)
 
-  pub range-free : {r : Bool} → e .kind ≡ 0 → r ≡ isClear e → r ≡ entryInRange e
-  unfolding entryInRange
-  range-free h f = rw (eq-eqb _ _ h) f
-
-  pub range-node : {k r : Bool} → (e .kind ≡ 0 → ⊥) → k ≡ isKind (e .kind) → k ≡ true → r ≡ isNode (e .bus) (e .address) → r ≡ entryInRange e
-  unfolding entryInRange
-  range-node h g t f = rw (ne-eqb _ _ h, ← g, t) f
-
-  pub range-kind : {k : Bool} → (e .kind ≡ 0 → ⊥) → k ≡ isKind (e .kind) → k ≡ false → false ≡ entryInRange e
-  unfolding entryInRange
-  range-kind h g t = rw (ne-eqb _ _ h, ← g, t)
-
-pub tick-is : (e : Entry) (l : ℕ) → l ≡ e .left - 1 → record { kind = e .kind; bus = e .bus; address = e .address; left = l } ≡ tick e
+pub tick-is : (e : Entry) (l : ℕ) → l ≡ e .left - 1 → record { kind = e .kind; bus = e .bus; address = e .address; spare = e .spare; left = l } ≡ tick e
 tick-is e l h = rw h
 
 module _ (l : ℕ) where

@@ -1,7 +1,7 @@
 -- The orders by numbers, a law for each `return`. Assumes nothing.
-use mathlib.Core.Path.{_≡_, refl, sym, _∙_, ap}
+use mathlib.Core.Path.{_≡_}
 use Prim.Native.Nat.{ℕ}
-use mathlib.Core.Bool.{Bool, true, false, cond, _&&_, _||_}
+use mathlib.Core.Bool.{Bool, true, false, cond, _&&_}
 use lib.Dec.{eqb}
 use borrow.Author.Tests.{eq-eqb, ne-eqb}
 use Rattle.board.specs.declared.entries.Bus.{Bus}
@@ -10,9 +10,9 @@ use Rattle.board.specs.declared.entries.Kind.{Kind}
 use Rattle.board.specs.declared.entries.Kind.the-variants.{Valve, Calibration}
 use Rattle.board.specs.declared.entries.Node.{Node}
 use Rattle.board.specs.declared.orders.Order.{Order}
-use Rattle.board.specs.declared.orders.Order.the-variants.{Open, Close, Restart, Unnamed}
+use Rattle.board.specs.declared.orders.Order.the-variants.{Open, Close}
 use Rattle.board.specs.Entries.{isKind}
-use Rattle.board.specs.Numbers.{isBus, busOf, kindOf, nodeOf, openBy, closeBy, restartBy}
+use Rattle.board.specs.Numbers.{isBus, busOf, kindOf, nodeOf}
 
 module _ (n : ℕ) where
   pub bus-0 : n ≡ 0 → true ≡ isBus n

@@ -1,24 +1,18 @@
 -- What the functions of an order return, a law for each `return`. Assumes nothing.
-use mathlib.Core.Path.{_≡_, refl, sym, _∙_, ap, subst}
-use Prim.Native.Nat.{ℕ, zero, suc, _+_, _*_, _<_, _≤_}
+use mathlib.Core.Path.{_≡_, sym, _∙_, ap}
+use Prim.Native.Nat.{ℕ, _+_, _*_, _<_, _≤_}
 use native.Mathlib.Omega.{arith}
-use mathlib.Core.Bool.{Bool, true, false, not, cond, _&&_, _||_}
-use mathlib.Core.List.{List, [], _∷_, map}
-use lib.Dec.{leb, ltb, eqb}
-use lib.ListN.{length, set}
-use borrow.Author.Tests.{eq-eqb, ne-eqb, not-true, not-false, leb-true}
-use Rattle.refusal.specs.Refusals.{number, Answered, served, refused}
-use Rattle.refusal.specs.declared.Refusal.the-variants.{BadRecord, OutOfRange, BoardFull}
+use mathlib.Core.Bool.{Bool, true, false, not, _&&_}
+use lib.Dec.{leb, ltb}
+use borrow.Author.Tests.{not-false, leb-true}
 use Rattle.board.specs.declared.entries.Kind.{Kind}
-use Rattle.board.specs.declared.entries.Kind.the-variants.{Valve, Calibration}
 use Rattle.board.specs.declared.entries.Node.{Node}
 use Rattle.board.specs.declared.entries.Entry.{Entry}
 use Rattle.board.specs.declared.orders.Order.{Order}
 use Rattle.board.specs.declared.orders.Order.the-variants.{Open}
-use Rattle.board.specs.declared.orders.Answer.{Answer}
 use Rattle.board.specs.declared.orders.Answer.the-variants as answer
-use Rattle.board.specs.Entries.{nodeInRange, busNumber, kindNumber, entryOf, free, isFree, has, isOf, onNode, placeOf, holds, valid}
-use Rattle.board.specs.Orders.{Outcome, leaseInRange, orderInRange, opened, freed, done, change, paperAnswer, numberIf, numbered}
+use Rattle.board.specs.Entries.{nodeInRange}
+use Rattle.board.specs.Orders.{leaseInRange, orderInRange}
 use Rattle.board.specs.Listing.{rank}
 use Rattle.board.proofs.Tests.{and-right}
 

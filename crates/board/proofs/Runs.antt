@@ -1,12 +1,12 @@
 -- What is done to a run of places: one more of them, none, all, one alone; polls are a run from the first place on. Assumes nothing.
 use mathlib.Core.Path.{_≡_, refl, sym, _∙_, ap}
-use Prim.Native.Nat.{ℕ, zero, suc, _+_, _-_, _<_, _≤_}
+use Prim.Native.Nat.{ℕ, suc, _+_, _-_, _<_, _≤_}
 use native.Mathlib.Nat.{add-sub-of-le, sub-zero, sub-self}
 use native.Mathlib.Numerals.{add-one}
 use native.Mathlib.Omega.{arith}
 use mathlib.Core.List.{List, [], _∷_, _++_, map, map-append, append-nil, append-assoc}
 use lib.ListN.{length, getD, set, take, drop, length-append, length-map, length-drop, take-append-drop, drop-of-length-le}
-use lib.Seq.{length-take-le, take-suc, take-all, drop-cons, set-at, set-split, getD-at, getD-drop, append-snoc}
+use lib.Seq.{length-take-le, take-suc, take-all, drop-cons, set-at, getD-at, getD-drop, append-snoc}
 use Rattle.board.specs.declared.entries.Entry.{Entry}
 use Rattle.board.specs.declared.orders.Step.{Step}
 use Rattle.board.specs.declared.orders.Step.the-variants.{Put}
@@ -117,6 +117,3 @@ steps-one i e t h =
     ∙ sym (steps-is i (suc i) (Put e) t)
     ∙ sym (mapped-step (stepOf (Put e)) i t i e (omega arith) h)
     ∙ ap (λ (r : List Entry). set r i e) (mapped-none (stepOf (Put e)) i t)
-
-pub steps-length : (from to : ℕ) (s : Step) (t : List Entry) → from ≤ to → to ≤ length t → length (steps from to s t) ≡ length t
-steps-length from to s t l h = ap length (sym (steps-is from to s t)) ∙ mapped-length (stepOf s) from t to l h

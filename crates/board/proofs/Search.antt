@@ -1,16 +1,14 @@
 -- The first place, the first entry and the number of entries of which a test holds, in a table that is stored to or changed place by place.
 -- Assumes nothing.
 use mathlib.Core.Path.{_≡_, refl, sym, _∙_, ap}
-use Prim.Native.Nat.{ℕ, zero, suc, _+_, _<_, _≤_}
+use Prim.Native.Nat.{ℕ, zero, suc, _<_}
 use native.Mathlib.Omega.{arith}
-use mathlib.Core.Bool.{Bool, true, false, cond, not, _&&_, _||_}
-use mathlib.Core.List.{List, [], _∷_, _++_, map}
+use mathlib.Core.Bool.{Bool, true, false, cond, _||_}
+use mathlib.Core.List.{List, [], _∷_, map}
 use mathlib.Core.Option.{Option, none, some}
-use lib.Dec.{ltb, eqb}
-use lib.ListN.{length, getD, set}
-use borrow.Author.Tests.{lt-ltb, le-ltb}
+use lib.ListN.{getD, set}
 use Rattle.board.specs.declared.entries.Entry.{Entry}
-use Rattle.board.specs.Entries.{free, placeOf, holds, found, count}
+use Rattle.board.specs.Entries.{free, placeOf, holds, found}
 use Rattle.board.specs.Orders.{freed}
 use Rattle.board.proofs.Tests.{true-not-false, or-left, or-right}
 

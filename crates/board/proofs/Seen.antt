@@ -1,16 +1,16 @@
 -- The kinds that were seen of each node tell whether an entry stands again; what the loop over the places comes to. Assumes nothing.
-use mathlib.Core.Path.{_≡_, refl, sym, _∙_, ap, subst}
+use mathlib.Core.Path.{_≡_, refl, sym, _∙_, ap}
 use Prim.Native.Nat.{ℕ, zero, suc, _+_, _-_, _*_, _<_, _≤_}
 use native.Mathlib.Omega.{arith}
 use mathlib.Core.Bool.{Bool, true, false, not, cond, _&&_, _||_}
 use mathlib.Core.List.{List, [], _∷_}
-use lib.ListN.{length, getD, set, take, drop, drop-of-length-le, length-set, replicate, length-replicate, getD-replicate}
-use lib.Seq.{getD-set-same, getD-set-other, drop-cons, getD-take}
+use lib.ListN.{length, getD, set, drop, drop-of-length-le, length-set, replicate, length-replicate, getD-replicate}
+use lib.Seq.{getD-set-same, getD-set-other, drop-cons}
 use lib.Bits.{bitAnd, bitOr}
 use lib.Dec.{leb, ltb, eqb}
-use borrow.Author.Tests.{eq-eqb, ne-eqb, eqb-true, eqb-false, leb-true, leb-false, lt-ltb, le-ltb, le-leb, lt-leb, not-true, not-false}
+use borrow.Author.Tests.{eq-eqb, ne-eqb, eqb-true, eqb-false, leb-true, leb-false, lt-ltb, le-ltb, le-leb, not-true, not-false}
 use Rattle.board.specs.declared.entries.Entry.{Entry}
-use Rattle.board.specs.Entries.{free, isFree, has, isKind, isNode, isClear, entryInRange, holds, again, valid}
+use Rattle.board.specs.Entries.{isFree, has, isKind, isNode, isClear, entryInRange, holds, again, valid}
 use Rattle.board.specs.Private.{nodePlace, mark}
 use Rattle.board.proofs.Tests.{true-not-false, and-left, and-right, not-both}
 use Rattle.board.proofs.Validity.{first-in-range, first-once, rest-valid, stands-again}

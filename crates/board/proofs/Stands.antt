@@ -1,15 +1,15 @@
 -- What stands in a table is what the orders carried out say, order by order. Assumes nothing.
-use mathlib.Core.Path.{_≡_, refl, sym, _∙_, ap}
-use Prim.Native.Nat.{ℕ, zero, suc, _-_, _<_, _≤_}
-use mathlib.Core.Bool.{Bool, true, false, cond, not}
-use mathlib.Core.List.{List, [], _∷_, map}
+use mathlib.Core.Path.{_≡_, refl, _∙_, ap}
+use Prim.Native.Nat.{ℕ, _-_}
+use mathlib.Core.Bool.{Bool, true, false, cond}
+use mathlib.Core.List.{List, _∷_, map}
 use mathlib.Core.Option.{Option, none, some}
 use lib.ListN.{getD, set}
 use Rattle.board.specs.declared.entries.Kind.{Kind}
 use Rattle.board.specs.declared.entries.Node.{Node}
 use Rattle.board.specs.declared.entries.Entry.{Entry}
 use Rattle.board.specs.declared.orders.Order.{Order}
-use Rattle.board.specs.declared.orders.Order.the-variants.{Open, Close, Restart, Poll, Unnamed, Nothing}
+use Rattle.board.specs.declared.orders.Order.the-variants.{Open, Close, Restart, Poll, Nothing}
 use Rattle.board.specs.Entries.{entryOf, free, isFree, has, isOf, onNode, placeOf, holds, found}
 use Rattle.board.specs.Orders.{freed, tick}
 use Rattle.board.specs.Series.{sameNode, same, polled, left, entryIf, standingAfter}

@@ -1,13 +1,10 @@
 -- Tests of entries, nodes and kinds. Assumes nothing.
-use mathlib.Core.Path.{_≡_, refl, sym, _∙_, ap}
-use Prim.Native.Nat.{ℕ, zero, suc, _<_, _≤_}
+use mathlib.Core.Path.{_≡_, refl, sym, _∙_}
+use Prim.Native.Nat.{ℕ}
 use native.Mathlib.Omega.{arith}
-use mathlib.Core.Bool.{Bool, true, false, cond, not, _&&_, _||_}
-use mathlib.Core.List.{List, [], _∷_}
+use mathlib.Core.Bool.{Bool, true, false, _&&_, _||_}
 use lib.Dec.{eqb}
 use borrow.Author.Tests.{eq-eqb, ne-eqb, eqb-true, eqb-false}
-use Rattle.board.specs.declared.entries.Bus.{Bus}
-use Rattle.board.specs.declared.entries.Bus.the-variants.{Serial, I2c}
 use Rattle.board.specs.declared.entries.Kind.{Kind}
 use Rattle.board.specs.declared.entries.Kind.the-variants.{Valve, Calibration}
 use Rattle.board.specs.declared.entries.Node.{Node}
@@ -37,9 +34,6 @@ or-left false b e = refl
 pub or-right : (a b : Bool) → (a || b) ≡ false → b ≡ false
 or-right true b e = absurd (true-not-false e)
 or-right false b e = e
-
-pub neither : (a b : Bool) → a ≡ false → b ≡ false → (a || b) ≡ false
-neither a b e f = rw (e, f)
 
 pub not-both : (b : Bool) → (b ≡ true → ⊥) → b ≡ false
 not-both true h = absurd (h refl)
@@ -120,7 +114,7 @@ module _ (x : Node) (k : Kind) (y : Node) (j : Kind) (h : same x k y j ≡ true)
   same-address = eqb-true (x .address) (y .address) (and-right (eqb (busNumber (x .bus)) (busNumber (y .bus))) _ same-node)
 
   pub same-entry : (lease : ℕ) → entryOf x k lease ≡ entryOf y j lease
-  same-entry lease i = record { kind = same-kind i; bus = same-bus i; address = same-address i; left = lease }
+  same-entry lease i = record { kind = same-kind i; bus = same-bus i; address = same-address i; spare = 0; left = lease }
 
   pub same-test : isOf y j ≡ isOf x k
   same-test i = has (sym same-kind i) (sym same-bus i) (sym same-address i)

@@ -1,12 +1,12 @@
 -- A valid table stays valid: changed place by place, with a lease renewed, and with a new entry in a free place. Assumes nothing.
 use mathlib.Core.Path.{_≡_, refl, sym, _∙_, ap}
-use Prim.Native.Nat.{ℕ, zero, suc, _-_, _<_, _≤_}
+use Prim.Native.Nat.{ℕ, zero, suc, _-_}
 use native.Mathlib.Omega.{arith}
 use mathlib.Core.Bool.{Bool, true, false, cond, not, _&&_, _||_}
 use mathlib.Core.List.{List, [], _∷_, map}
 use lib.Dec.{eqb}
 use lib.ListN.{set}
-use borrow.Author.Tests.{eq-eqb, ne-eqb, eqb-true, eqb-false, not-true, not-false}
+use borrow.Author.Tests.{eq-eqb, eqb-true, eqb-false, not-true}
 use Rattle.board.specs.declared.entries.Entry.{Entry}
 use Rattle.board.specs.Entries.{free, isFree, has, isKind, isNode, isClear, entryInRange, placeOf, holds, again, valid}
 use Rattle.board.specs.Orders.{freed, tick}

@@ -1,18 +1,18 @@
 -- An order on a table of any number of places, and a table that is read. Assumes nothing.
-use mathlib.Core.Path.{_≡_, refl, sym, _∙_, ap, subst}
-use Prim.Native.Nat.{ℕ, zero, suc, _+_, _-_, _<_, _≤_}
+use mathlib.Core.Path.{_≡_, refl, sym, _∙_, ap}
+use Prim.Native.Nat.{ℕ, zero, suc, _-_, _≤_}
 use native.Mathlib.Omega.{arith}
-use mathlib.Core.Bool.{Bool, true, false, not, cond}
-use mathlib.Core.List.{List, [], _∷_, _++_}
-use lib.ListN.{length, take, drop, replicate, length-replicate}
+use mathlib.Core.Bool.{Bool, true, false, cond}
+use mathlib.Core.List.{List, []}
+use lib.ListN.{length, take, length-replicate}
 use lib.Seq.{take-all}
 use lib.Dec.{eqb}
 use borrow.Author.Tests.{eq-eqb, ne-eqb, eqb-true, eqb-false}
-use Rattle.refusal.specs.Refusals.{number, Answered, served, refused}
+use Rattle.refusal.specs.Refusals.{number, refused}
 use Rattle.board.specs.declared.entries.Entry.{Entry}
 use Rattle.board.specs.declared.orders.Order.{Order}
 use Rattle.board.specs.Entries.{free, empty, valid}
-use Rattle.board.specs.Orders.{Outcome, change, numbered, paperAnswer}
+use Rattle.board.specs.Orders.{change, numbered, paperAnswer}
 use Rattle.board.specs.declared.survey.Target.{Target}
 use Rattle.board.specs.declared.survey.Found.{Found}
 use Rattle.board.specs.declared.orders.Order.the-variants.{Open, Close, Restart, Poll, Unnamed, Nothing}

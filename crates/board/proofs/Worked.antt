@@ -1,19 +1,16 @@
 -- Worked examples of the definitions, by computing. Assumes nothing.
 use mathlib.Core.Path.{_≡_, refl}
 use mathlib.Core.List.{List, [], _∷_}
-use mathlib.Core.Option.{none, some}
-use Prim.Native.Nat.{ℕ}
 use Rattle.refusal.specs.Refusals.{number, served, refused}
 use Rattle.board.specs.declared.entries.Bus.the-variants.{Serial, I2c}
 use Rattle.board.specs.declared.entries.Kind.the-variants.{Valve, Calibration}
 use Rattle.board.specs.declared.entries.Node.{Node}
-use Rattle.board.specs.declared.entries.Entry.{Entry}
 use Rattle.board.specs.declared.orders.Order.{Order}
 use Rattle.board.specs.declared.orders.Order.the-variants.{Open, Close, Restart, Poll}
-use Rattle.board.specs.Entries.{entryOf, free, isFree, has, onNode, isKind, isNode, isClear, entryInRange, empty, placeOf, holds, found, again, valid}
+use Rattle.board.specs.Entries.{entryOf, free, has, onNode, isKind, isNode, isClear, entryInRange, empty, placeOf, holds, found, again, valid}
 use Rattle.board.specs.Orders.{opened, freed, change}
 use Rattle.board.specs.Listing.{standingIn, byAddress, listed}
-use Rattle.board.specs.Series.{left, answerTo, carriedOut, answersTo, standingAfter, tableAfter, answers}
+use Rattle.board.specs.Series.{left, answerTo, carriedOut, standingAfter, tableAfter, answers}
 
 abbrev serial5 : Node
 serial5 = record { bus = Serial; address = 5 }

@@ -20,7 +20,7 @@ lastAddress I2c = 127
 abbrev pub nodeInRange : Node → Bool
 nodeInRange node = leb (node .address) (lastAddress (node .bus))
 
--- ---- an entry, by its four numbers
+-- ---- an entry, by its four numbers; a fifth, spare, is nobody's and is never looked at
 -- the numbers that stand for a bus and a kind
 abbrev pub busNumber : Bus → ℕ
 busNumber Serial = 0
@@ -32,11 +32,11 @@ kindNumber Calibration = 2
 
 -- the entry of a node and kind, with its polls left
 abbrev pub entryOf : Node → Kind → ℕ → Entry
-entryOf node kind left = record { kind = kindNumber kind; bus = busNumber (node .bus); address = node .address; left = left }
+entryOf node kind left = record { kind = kindNumber kind; bus = busNumber (node .bus); address = node .address; spare = 0; left = left }
 
--- a free place: all its numbers are 0
+-- a place that was never held, or is freed: all its numbers are 0
 abbrev pub free : Entry
-free = record { kind = 0; bus = 0; address = 0; left = 0 }
+free = record { kind = 0; bus = 0; address = 0; spare = 0; left = 0 }
 
 abbrev pub isFree : Entry → Bool
 isFree e = eqb (e .kind) 0

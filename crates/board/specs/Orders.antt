@@ -22,7 +22,7 @@ Outcome = Answered (Unit {0}) × List Entry
 abbrev pub leaseInRange : ℕ → Bool
 leaseInRange lease = leb 1 lease && leb lease 65535
 
--- "12 for a lease or address outside its range"; numbers from C that name no bus or no kind are 12 as well
+-- "12 for a lease or address outside its range"; numbers from C that name no bus, kind, request or command are 12 as well
 abbrev pub orderInRange : Order → Bool
 orderInRange (Open node kind lease) = nodeInRange node && leaseInRange lease
 orderInRange (Close node kind) = nodeInRange node
@@ -44,7 +44,7 @@ freed f e = cond (f e) free e
 
 -- "Each poll takes one from every lease above 0"; a difference of naturals is never below 0
 abbrev pub tick : Entry → Entry
-tick e = record { kind = e .kind; bus = e .bus; address = e .address; left = e .left - 1 }
+tick e = record { kind = e .kind; bus = e .bus; address = e .address; spare = e .spare; left = e .left - 1 }
 
 -- an order carried out; "closing what isn't there does nothing", and "a restart [closes] both"
 abbrev pub done : Order → List Entry → Outcome

@@ -1,4 +1,5 @@
--- 02 (i): what every series of orders from the empty table answers and leaves, told from the orders alone: no table, no place.
+-- 02 (i): what every series of orders from the empty table answers and leaves, told from the orders alone: no table, no place. Only where a
+-- new entry goes is told of a table.
 use Prim.Native.Nat.{ℕ, _+_, _-_, _≤_, _<_}
 use mathlib.Core.Path.{_≡_}
 use mathlib.Core.Bool.{Bool, true, false, cond, not, _&&_}

@@ -26,12 +26,14 @@ pub struct Node {
 // A place of the handover board's table. In a free place all numbers are 0.
 #[repr(C)]
 pub struct Entry {
-    // 0 for a free place, or one of MFC_ENTRY_..
+    // 0 for a free place, or one of MFC_ENTRY_*
     pub kind: u8,
-    // One of MFC_BUS_..
+    // One of MFC_BUS_*
     pub bus: u8,
     // 0 to 254 on the serial bus, 0 to 127 on I2C.
     pub address: u8,
+    // Nobody's: padding in C, never looked at. 0 in a place that is opened, renewed or freed, else as it was.
+    pub spare: u8,
     // The polls left; 0 where the entry is due.
     pub left: u16,
 }
@@ -42,11 +44,11 @@ pub struct Places {
 }
 
 // The numbers that stand for a bus and a kind in an entry; kind 0 is a free place.
-const SERIAL: u8 = 0;
+pub(crate) const SERIAL: u8 = 0;
 
-const I2C: u8 = 1;
+pub(crate) const I2C: u8 = 1;
 
-const VALVE: u8 = 1;
+pub(crate) const VALVE: u8 = 1;
 
 const CALIBRATION: u8 = 2;
 
@@ -91,6 +93,7 @@ pub(crate) fn free_place() -> Entry
         kind: 0,
         bus: 0,
         address: 0,
+        spare: 0,
         left: 0,
     }
 }

@@ -1,7 +1,10 @@
 // Orders by numbers, as C gives them: bus 0 is serial and 1 is I2C, kind 1 is a valve and 2 a temporary calibration.
 use crate::entries::Bus;
+use crate::entries::I2C;
 use crate::entries::Kind;
 use crate::entries::Node;
+use crate::entries::SERIAL;
+use crate::entries::VALVE;
 use crate::entries::is_kind;
 use crate::orders::Order;
 ghost use mathlib.Core.Path.{_≡_};
@@ -12,16 +15,16 @@ ghost use Rattle.board.specs.Numbers.{isBus, busOf, kindOf, nodeOf, open
 fn is_bus(n: u8) -> bool
     ensures { λ r. ⌜ r ≡ isBus n ⌝ }
 {
-    if n == 0 {
+    if n == SERIAL {
         return true;
     }
-    n == 1
+    n == I2C
 }
 
 fn bus_of(n: u8) -> Bus
     ensures { λ r. ⌜ r ≡ busOf n ⌝ }
 {
-    if n == 0 {
+    if n == SERIAL {
         return Bus::Serial;
     }
     Bus::I2c
@@ -30,7 +33,7 @@ fn bus_of(n: u8) -> Bus
 fn kind_of(n: u8) -> Kind
     ensures { λ r. ⌜ r ≡ kindOf n ⌝ }
 {
-    if n == 1 {
+    if n == VALVE {
         return Kind::Valve;
     }
     Kind::Calibration

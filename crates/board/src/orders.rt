@@ -139,6 +139,7 @@ pub(crate) fn tick_of(e: Entry) -> Entry
         kind: e.kind,
         bus: e.bus,
         address: e.address,
+        spare: e.spare,
         left: left,
     }
 }
@@ -246,6 +247,7 @@ fn entry(node: Node, kind: Kind, lease: u16) -> Entry
         kind: kind_number(kind),
         bus: bus_number(on),
         address: node.address,
+        spare: 0,
         left: lease,
     }
 }

@@ -37,6 +37,7 @@ pub(crate) fn spoilt(p: Places, i: usize, kind: u8, bus: u8, address: u8, left: 
         kind: kind,
         bus: bus,
         address: address,
+        spare: 0,
         left: left,
     };
     q

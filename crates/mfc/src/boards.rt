@@ -31,7 +31,7 @@ pub extern "C" fn mfc_board_open(
     board::table::change(table, o)
 }
 
-// Closes the entry of a node and kind; where there is none, nothing is done. Refusals, in their order: 1, 2, 12.
+// Closes the entry of a node and kind; where there is none, nothing is done. Refusals, in their order: 1, 2 and 12 as for mfc_board_open.
 #[no_mangle]
 pub extern "C" fn mfc_board_close(table: &mut [Entry], bus: u8, address: u8, kind: u8) -> u8
     ensures { λ r. ⌜ (r, now (table .exit)) ≡ numbered (change (now (table .entry)) (closeBy bus address kind)) ⌝ }
@@ -40,7 +40,7 @@ pub extern "C" fn mfc_board_close(table: &mut [Entry], bus: u8, address: u8, kin
     board::table::change(table, o)
 }
 
-// A node has restarted: both its entries are closed. Refusals, in their order: 1, 2, 12.
+// A node has restarted: both its entries are closed. Refusals, in their order: 1, 2 and 12 as for mfc_board_open.
 #[no_mangle]
 pub extern "C" fn mfc_board_restart(table: &mut [Entry], bus: u8, address: u8) -> u8
     ensures { λ r. ⌜ (r, now (table .exit)) ≡ numbered (change (now (table .entry)) (restartBy bus address)) ⌝ }
@@ -50,7 +50,7 @@ pub extern "C" fn mfc_board_restart(table: &mut [Entry], bus: u8, address: u8) -
 }
 
 // One poll: it takes one from every lease above 0. An entry with 0 left is due, and stays so until it is closed or renewed. Refusals, in
-// their order: 1, 2.
+// their order: 1 and 2 as for mfc_board_open.
 #[no_mangle]
 pub extern "C" fn mfc_board_poll(table: &mut [Entry]) -> u8
     ensures { λ r. ⌜ (r, now (table .exit)) ≡ numbered (change (now (table .entry)) Poll) ⌝ }
@@ -72,8 +72,8 @@ pub extern "C" fn mfc_board_list(table: &[Entry], entries: &mut [Entry]) -> List
 // To be called after every reply that was read: the address and the request's number that were asked, and the refusal that
 // mfc_read_reply answered. An accepted volatile calibration (command 46) opens the calibration entry of the address for a lease of polls, an
 // accepted set calibration (45) closes it; all else concerns no entry, changes nothing and is answered 0 where the table is good.
-// Refusals, in their order: 1, 2, 12 (for a request over 20; for the address where an entry is to be opened or closed, for the lease where
-// one is to be opened), 19.
+// Refusals, in their order: 1 and 2 as for mfc_board_open; 12 for a request over 20, for an address out of range where an entry is to be
+// opened or closed, and for a lease out of range where one is to be opened; 19 where it is new and all places are held.
 #[no_mangle]
 pub extern "C" fn mfc_board_reply(
     table: &mut [Entry],
@@ -89,8 +89,9 @@ pub extern "C" fn mfc_board_reply(
 }
 
 // To be called after every command that an SFC6 on I2C has acknowledged, with its code: 3FEF opens the valve entry of the address for a lease
-// of polls, 3F6E closes it, the other codes of MFC_SFC6_.. concern no entry. Refusals, in their order: 1, 2, 12 (for any other code; for
-// the address where an entry is to be opened or closed, for the lease where one is to be opened), 19.
+// of polls, 3F6E closes it, the other codes of MFC_SFC6_* concern no entry. Refusals, in their order: 1 and 2 as for
+// mfc_board_open; 12 for any other code, for an address out of range where an entry is to be opened or closed, and for a lease out of range
+// where one is to be opened; 19 where it is new and all places are held.
 #[no_mangle]
 pub extern "C" fn mfc_board_acknowledged(
     table: &mut [Entry],

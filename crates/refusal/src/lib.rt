@@ -4,7 +4,7 @@ ghost use Rattle.refusal.specs.Refusals.{numberOf};
 
 // Why an entry point does not serve. The comment of a case is its number and its row of the table.
 pub enum Refusal {
-    // 1: lent room is less than this answer needs.
+    // 1: lent room is less than this answer needs; a board's table not of 32 places.
     NoRoom,
     // 2: receiver record outside its ranges; a board's table with an entry out of range, or with a node and kind twice.
     BadRecord,

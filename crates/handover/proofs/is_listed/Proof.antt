@@ -1,5 +1,4 @@
 -- `handover::is_listed` meets its contract. Assumes nothing.
-use borrow.Author.Needs.{needs}
 use mathlib.Core.Path.{refl}
 use Rattle.handover.specs.Wire.{isListed}
 use Rattle.handover.proofs.Arms.{listed-at, not-listed}

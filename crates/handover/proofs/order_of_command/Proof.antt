@@ -1,6 +1,5 @@
 -- `handover::order_of_command` meets its contract. Assumes nothing.
 use borrow.Author.Needs.{needs}
-use mathlib.Core.Path.{sym, _∙_, ap}
 use Rattle.handover.proofs.Arms.{where-true}
 use Rattle.handover.proofs.order_of_command.Statement.{statement}
 use Rattle.handover.proofs.order_of_command.Tie as tie

@@ -1,8 +1,5 @@
 -- `board::orders::plan_done` meets its contract. Assumes nothing.
-use mathlib.Core.Path.{refl, ap}
 use borrow.Author.Needs.{needs}
-use Rattle.board.specs.declared.orders.Step.the-variants.{Free}
-use Rattle.board.specs.Private.{foundIn, soughtBy, soughtIn}
 use Rattle.board.proofs.Returns.{lease-fits}
 use Rattle.board.proofs.Carried.{for-order, whatever-known, open-known, all-stepped, all-polled, nothing-done, target-freed}
 use Rattle.board.proofs.orders.plan_done.Statement.{statement}
