@@ -27,11 +27,18 @@ pub const OTHER_CODES: [u16; 5] = [0xE102, 0xE000, 0xE17D, 0x3650, 0x365B];
 /// Bus, address and kind, whose numbers are in the order of the list: serial 0, I2C 1; valve 1, calibration 2.
 type Key = (u8, u8, u8);
 
-/// Where an entry stands, and its polls left.
+/// Where an entry stands, byte 3 of its place, and its polls left.
 #[derive(Clone, Copy)]
 struct Held {
     place: usize,
+    padding: u8,
     left: u16,
+}
+
+impl Held {
+    fn entry(&self, (bus, address, kind): Key) -> Entry {
+        Entry { kind, bus, address, padding: self.padding, left: self.left }
+    }
 }
 
 struct Board(BTreeMap<Key, Held>);
@@ -57,13 +64,9 @@ fn in_range(is_so: bool) -> Result<(), u8> {
     }
 }
 
-/// The place with other numbers; byte 3 stays as it is.
-fn renumbered(place: Entry, (bus, address, kind): Key, left: u16) -> Entry {
-    Entry { kind, bus, address, left, ..place }
-}
-
-fn freed(place: Entry) -> Entry {
-    renumbered(place, (0, 0, 0), 0)
+/// All numbers of a free place are 0; byte 3 is none of them.
+fn is_free(place: &Entry) -> bool {
+    Entry { padding: 0, ..*place } == Entry::default()
 }
 
 impl Board {
@@ -73,9 +76,9 @@ impl Board {
             return Err(1);
         }
         let mut held = BTreeMap::new();
-        for (place, &entry) in table.iter().enumerate().filter(|(_, entry)| **entry != freed(**entry)) {
+        for (place, &entry) in table.iter().enumerate().filter(|(_, entry)| !is_free(entry)) {
             let key = (entry.bus, entry.address, entry.kind);
-            let twice = held.insert(key, Held { place, left: entry.left }).is_some();
+            let twice = held.insert(key, Held { place, padding: entry.padding, left: entry.left }).is_some();
             if twice || !is_key(key) {
                 return Err(2);
             }
@@ -83,10 +86,11 @@ impl Board {
         Ok(Board(held))
     }
 
+    /// A place that was free and stays so keeps its byte 3; one that is freed is all zeros.
     fn lay(&self, table: &mut [Entry]) {
-        table.iter_mut().for_each(|place| *place = freed(*place));
+        table.iter_mut().filter(|place| !is_free(place)).for_each(|place| *place = Entry::default());
         for (key, held) in &self.0 {
-            table[held.place] = renumbered(table[held.place], *key, held.left);
+            table[held.place] = held.entry(*key);
         }
     }
 
@@ -104,7 +108,7 @@ impl Board {
         if place == PLACES {
             return Err(19);
         }
-        self.0.insert(key, Held { place, left });
+        self.0.insert(key, Held { place, padding: 0, left });
         Ok(())
     }
 
@@ -156,7 +160,7 @@ pub fn list(table: &[Entry], entries: &mut [Entry]) -> Listed {
         Ok(board) if board.0.len() > entries.len() => refused(1),
         Ok(board) => {
             for (place, (key, held)) in entries.iter_mut().zip(&board.0) {
-                *place = renumbered(*place, *key, held.left);
+                *place = held.entry(*key);
             }
             Listed { refusal: 0, count: board.0.len() }
         }

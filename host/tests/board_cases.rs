@@ -7,7 +7,6 @@ use crate::interface::*;
 use crate::library::Library;
 use crate::reference::Reference;
 use std::fmt::{self, Debug, UpperHex};
-use std::sync::atomic::{AtomicU64, Ordering};
 
 // ---- Places and tables
 
@@ -128,45 +127,6 @@ impl Order {
     }
 }
 
-// ---- Byte 3
-
-/// Calls that served, and those of them that changed a byte 3.
-struct Count {
-    served: AtomicU64,
-    changed: AtomicU64,
-}
-
-impl Count {
-    const fn new() -> Count {
-        Count { served: AtomicU64::new(0), changed: AtomicU64::new(0) }
-    }
-
-    fn told(&self) -> String {
-        let of = |number: &AtomicU64| thousands(number.load(Ordering::Relaxed));
-        format!("{} of {}", of(&self.changed), of(&self.served))
-    }
-}
-
-static IN_TABLES: Count = Count::new();
-static IN_LISTS: Count = Count::new();
-
-/// What was seen of byte 3, which no case holds to anything where a call serves; none where none did.
-pub fn byte_3_told() -> Option<String> {
-    let any = IN_TABLES.served.load(Ordering::Relaxed) + IN_LISTS.served.load(Ordering::Relaxed) > 0;
-    any.then(|| format!("byte 3 changed by {} orders and {} lists that served", IN_TABLES.told(), IN_LISTS.told()))
-}
-
-/// Byte 3 is free where a call serves: it is taken as it was found, and counted.
-fn take_byte_3(expected: &mut [Entry], found: &[Entry], count: &Count) {
-    let mut changed = false;
-    for (expected, found) in expected.iter_mut().zip(found) {
-        changed |= expected.padding != found.padding;
-        expected.padding = found.padding;
-    }
-    count.served.fetch_add(1, Ordering::Relaxed);
-    count.changed.fetch_add(u64::from(changed), Ordering::Relaxed);
-}
-
 // ---- Cases
 
 /// A table that the library is lent from call to call, and what the reference says of it.
@@ -192,13 +152,6 @@ impl Lending {
         let found = order.given(&self.library, self.found.slice(), room.slice());
         if expected != found {
             return Err(format!("answer: expected {expected:?}, found {found:?}"));
-        }
-        match order {
-            _ if expected.refusal != 0 => {}
-            Order::List { .. } => {
-                take_byte_3(&mut expected_room.slice()[..expected.count], room.contents(), &IN_LISTS);
-            }
-            _ => take_byte_3(self.expected.slice(), self.found.contents(), &IN_TABLES),
         }
         for (name, expected, found) in [("table", &self.expected, &self.found), ("room", &expected_room, &room)] {
             if let Some(text) = expected.difference(found) {

@@ -214,7 +214,4 @@ pub fn run(report: &mut Report) {
     report.section("board: every entry twice", doubled_section);
     report.section("board: every size of a table", sizes_section);
     report.section("board: every room for a list", rooms_section);
-    if let Some(text) = byte_3_told() {
-        println!("board: {text}");
-    }
 }

@@ -403,15 +403,6 @@ static mfc_entry *places_of(struct lent lent)
     return (mfc_entry *)(void *)lent.bytes;
 }
 
-/* Takes places back. The free byte of a place may hold anything after a call, so it does not go into the digest. */
-static void take_back_places(struct lent lent)
-{
-    for (size_t at = FREE_BYTE; at < lent.length; at += PLACE) {
-        lent.bytes[at] = 0;
-    }
-    take_back(lent);
-}
-
 static uint8_t an_address(void)
 {
     static const uint8_t ends[] = {0, 127, 128, 254, 255};
@@ -468,7 +459,7 @@ static void order(uint8_t *table, size_t places)
         memcpy(table, lent.bytes, lent.length);
     }
     fold(refusal);
-    take_back_places(lent);
+    take_back(lent);
 }
 
 static void list(const uint8_t *table, size_t places, size_t room)
@@ -490,7 +481,7 @@ static void list(const uint8_t *table, size_t places, size_t room)
     fold(listed.refusal);
     fold(listed.count);
     take_back(lent);
-    take_back_places(entries);
+    take_back(entries);
 }
 
 /* Orders from the empty table about a few nodes, other sizes and lists between them; then places of any bytes. */
