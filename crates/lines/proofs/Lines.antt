@@ -6,9 +6,8 @@ use mathlib.Core.Bool.{Bool, true, false, not}
 use mathlib.Core.List.{List, [], _∷_}
 use lib.Dec.{eqb}
 use lib.ListN.{length, getD, take}
-use Rattle.refusal.specs.Refusals.{number, _carrying_, numberOf, paper, served, refused}
+use Rattle.refusal.specs.Refusals.{numberIn, numberOf, served, refused}
 use Rattle.refusal.specs.declared.Refusal.{Refusal}
-use Rattle.refusal.specs.declared.Refusal.the-variants.{NoRoom, BadRecord, BadEscape, BareControl, BodyTooLong, BodyTooShort, WrongLength, WrongChecksum, CutBySilence, AddressBroadcast, UnknownCommand, OutOfRange, BadFloat, ForeignReply, DeviceError, BadWordCount, WrongCrc, BadScale}
 use Rattle.refusal.specs.Room.{overlay}
 use Rattle.refusal.proofs.Room.{overlay-nothing}
 use Rattle.receiver.specs.declared.Answer.{Answer}
@@ -67,28 +66,7 @@ module _ (given : Answer) (frame room : List ℕ) (place : ℕ) where
 abbrev says2 : Said → Bool
 says2 nothing = false
 says2 (gave (served n)) = false
-says2 (gave (refused (number n))) = eqb n 2
-says2 (gave (refused (n carrying v))) = false
-
-by-number : (why : Refusal) → says2 (gave (refused (paper why))) ≡ eqb (numberOf why) 2
-by-number NoRoom = refl
-by-number BadRecord = refl
-by-number BadEscape = refl
-by-number BareControl = refl
-by-number BodyTooLong = refl
-by-number BodyTooShort = refl
-by-number WrongLength = refl
-by-number WrongChecksum = refl
-by-number CutBySilence = refl
-by-number AddressBroadcast = refl
-by-number UnknownCommand = refl
-by-number OutOfRange = refl
-by-number BadFloat = refl
-by-number ForeignReply = refl
-by-number (DeviceError code) = refl
-by-number BadWordCount = refl
-by-number (WrongCrc index) = refl
-by-number BadScale = refl
+says2 (gave (refused n)) = eqb (numberIn n) 2
 
 quiet-2 : (r : Record) → says2 (silenceOf r .result .said) ≡ not (inRange r)
 quiet-2 r = go (inRange r) (pending r) refl refl
@@ -116,4 +94,4 @@ module _ (q : Quiet) (store : List ℕ) (r : Record) (e : paperQuiet q store ≡
   quiet-frame f = quiet-says f
 
   pub quiet-refused : {why : Refusal} {n : ℕ} → q .answer ≡ answer.Refused why → n ≡ numberOf why → not (eqb n 2) ≡ inRange r
-  quiet-refused {why} {n} f is = ap (λ (k : ℕ). not (eqb k 2)) is ∙ sym (ap not (by-number why)) ∙ quiet-says f
+  quiet-refused {why} {n} f is = ap (λ (k : ℕ). not (eqb k 2)) is ∙ quiet-says f
