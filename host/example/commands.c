@@ -84,6 +84,9 @@ static void readings(void)
     expect(AT, MFC_REQUEST_VALIDITY, 0, MFC_REPLY_VALIDITY, 1, "validity of a place with a calibration");
     expect(AT, MFC_REQUEST_VALIDITY, 2, MFC_REPLY_VALIDITY, 0, "validity of an empty place");
     expect(AT, MFC_REQUEST_VALIDITY, 0x7E7D1113, MFC_REPLY_VALIDITY, 0, "validity of a place past the end");
+    expect(OTHER_YES_AT, MFC_REQUEST_VALIDITY, 0, MFC_REPLY_VALIDITY, 1, "validity from a controller that says yes by 2A");
+    check(line.frame[4] == OTHER_YES, "the byte of that validity", "not 2A");
+    expect(OTHER_YES_AT, MFC_REQUEST_VALIDITY, 2, MFC_REPLY_VALIDITY, 0, "its validity of an empty place");
 }
 
 static void setpoint_and_settings(void)

@@ -272,19 +272,21 @@ static void answer(struct rack *rack, mfc_request asked, struct said said)
                       said.reply, asked.request, written.refusal);
 }
 
-/* An error answer to a command that is not in the library's table, laid by hand: address, command, state, L = 0, checksum. */
-static void answer_error(struct rack *rack, uint8_t address, uint8_t command, uint8_t code)
+/* An answer that the library does not write, laid by hand: address, command, state, L, at most one data byte, checksum. */
+static void answer_by_hand(struct rack *rack, uint8_t address, uint8_t command, uint8_t state, uint8_t length, uint8_t data)
 {
-    uint8_t body[5] = { 0, 0, 0, 0, 0 };
+    uint8_t body[6] = { 0, 0, 0, 0, 0, 0 };
     uint8_t wire[2 * sizeof body + 2];
     size_t n = 0;
 
     body[0] = address;
     body[1] = command;
-    body[2] = code;
-    body[4] = mfc_checksum(body, 4);
+    body[2] = state;
+    body[3] = length;
+    body[4] = data;
+    body[4 + length] = mfc_checksum(body, 4u + length);
     wire[n++] = 0x7E;
-    for (size_t i = 0; i < sizeof body; i++) {
+    for (size_t i = 0; i < 5u + length; i++) {
         uint8_t byte = body[i];
 
         if (byte == 0x7E || byte == 0x7D || byte == 0x11 || byte == 0x13) {
@@ -295,6 +297,18 @@ static void answer_error(struct rack *rack, uint8_t address, uint8_t command, ui
     }
     wire[n++] = 0x7E;
     put_answer(rack, wire, n);
+}
+
+/* An error answer, also to a command that is not in the library's table. */
+static void answer_error(struct rack *rack, uint8_t address, uint8_t command, uint8_t code)
+{
+    answer_by_hand(rack, address, command, code, 0, 0);
+}
+
+/* Yes to a question for validity, by another byte than the library's 01. */
+static void answer_other_yes(struct rack *rack, uint8_t address)
+{
+    answer_by_hand(rack, sender(rack, address), 0x40, 0, 1, OTHER_YES);
 }
 
 /* ---- requests ---- */
@@ -356,7 +370,11 @@ static void serve(struct rack *rack, const uint8_t *body, size_t n)
             continue;
         }
         said = execute(c, asked.request, asked.value);
-        if (to != BROADCAST)
+        if (to == BROADCAST)
+            continue;
+        if (said.reply == MFC_REPLY_VALIDITY && said.value != 0 && c->first == OTHER_YES_AT)
+            answer_other_yes(rack, to);
+        else
             answer(rack, asked, said);
     }
 }

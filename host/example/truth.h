@@ -14,6 +14,10 @@ static inline int true_validity(uint32_t index)
     return index < CALIBRATIONS && index % 3 != 2;
 }
 
+/* The maker's true is any of 1 to 255: the controller that starts with this address says it by 2A, the others by 01. */
+#define OTHER_YES_AT 7
+#define OTHER_YES 0x2A
+
 /* A valid place for every address. */
 static inline uint32_t true_calibration(uint8_t address)
 {

@@ -223,7 +223,7 @@ typedef struct {
     uint8_t bit7;
     /* The reply's number, 0 to 14. */
     uint8_t reply;
-    /* The value that it carries, a float by its bits. */
+    /* The value that it carries, a float by its bits, a validity as 0 for no and 1 for yes. */
     uint32_t value;
     /* Where the text of a product type starts in the body: at 4, also an empty one. */
     size_t text_start;
@@ -323,10 +323,11 @@ mfc_request mfc_read_request(const uint8_t *body, size_t n);
  * yes. Refusals, in their order: 11 for a request over 20; 12, 13 and 10 of the request itself,
  * as of mfc_write_request; 14 for a request to 255, a reply over 15, or one that is neither
  * expected nor a device error; 12 for a raw flow or raw conductivity over 65,535, an address
- * over 254, a validity over 1, a baud that is none of the five, an error code outside 1 to 127,
- * or a text that holds a 00 or is over 254 bytes; 13 for a float that is neither finite nor one
- * of the three codings; 1 where the frame is longer than room (MFC_REPLY_ROOM bytes hold any).
- * A text too long for a frame is 12 already, so refusal 5 does not come. */
+ * over 254, a baud that is none of the five, an error code outside 1 to 127, or a text that
+ * holds a 00 or is over 254 bytes; 13 for a float that is neither finite nor one of the three
+ * codings; 1 where the frame is longer than room (MFC_REPLY_ROOM bytes hold any). A validity is
+ * 0 for no, else yes, which is sent as 01. A text too long for a frame is 12 already, so
+ * refusal 5 does not come. */
 mfc_written mfc_write_reply(uint8_t address, uint8_t request, uint32_t value, uint8_t reply,
                             uint32_t reply_value, const uint8_t *text, size_t n, uint8_t bit7,
                             uint8_t *out, size_t room);
@@ -335,8 +336,9 @@ mfc_written mfc_write_reply(uint8_t address, uint8_t request, uint32_t value, ui
  * Refusals, in their order: 11 for a request over 20; 12, 13 and 10 of the request itself, as
  * of mfc_write_request; 5 to 8 of the body (over 260 bytes, under 5, L wrong, checksum wrong);
  * 14 for a request to 255, another address or command, data beside an error code, or a data
- * length not in the table; 15 for a device error; 12 for a validity, an address or a baud out
- * of range; 13 for a float that is neither finite nor one of the three codings. */
+ * length not in the table; 15 for a device error; 12 for an address or a baud out of range; 13
+ * for a float that is neither finite nor one of the three codings. A validity is answered as 0
+ * where its byte is 0, else as 1. */
 mfc_reply mfc_read_reply(uint8_t address, uint8_t request, uint32_t value,
                          const uint8_t *body, size_t n);
 

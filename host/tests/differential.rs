@@ -241,6 +241,42 @@ fn every_state_section(section: &mut Section) {
     }
 }
 
+/// The reply to a question for validity that holds this byte, from this address, as it stands on the wire.
+fn validity_wire(address: u8, state: u8, byte: u8) -> Vec<u8> {
+    wire(&body(&[address, 0x40, state, 1, byte]))
+}
+
+/// 02 (ii), by what it says and not by the reference: every byte is read as yes but 0, and what was read is written as 01 or 00, so that
+/// the bytes are the same for 00 and 01 alone. Every value but 0 that the writer is offered is yes.
+fn every_validity_section(section: &mut Section) {
+    let library = Library { null_for_empty: false };
+    for address in 0..255 {
+        for (bit7, state) in [(0, 0x00), (1, 0x80)] {
+            let index = section.random.u32();
+            for byte in 0..=255 {
+                let on_wire = validity_wire(address, state, byte);
+                let read = library.read_reply(address, 11, index, &body_by_library(section, 1, &on_wire));
+                let value = if byte == 0 { 0 } else { 1 };
+                section.expect("a byte of validity", interface::Reply { bit7, reply: 9, value, ..Default::default() }, read);
+                let mut out = [0; 16];
+                let written = library.write_reply(address, 11, index, read.reply, read.value, &[], read.bit7, &mut out);
+                let again = &out[..written.length];
+                section.expect("the validity that was read", (0, &validity_wire(address, state, value as u8)[..]), (written.refusal, again));
+                section.expect("the same bytes", byte < 2, again == on_wire);
+                let body = body_by_library(section, 1, again);
+                section.expect("a validity read again", read, library.read_reply(address, 11, index, &body));
+            }
+            let powers = (0..32).map(|bit| 1 << bit);
+            for value in (0..1024).chain(powers).chain([u32::MAX, section.random.u32() | 1]) {
+                let mut out = [0; 16];
+                let written = library.write_reply(address, 11, index, 9, value, &[], bit7, &mut out);
+                let expected = validity_wire(address, state, if value == 0 { 0 } else { 1 });
+                section.expect("a value of validity", (0, &expected[..]), (written.refusal, &out[..written.length]));
+            }
+        }
+    }
+}
+
 // ---- The receiver
 
 fn fresh_section(section: &mut Section) {
@@ -445,6 +481,7 @@ fn replies_round_trip(section: &mut Section) {
             let expected = match field {
                 Field::Nothing => interface::Reply { value: 0, ..plain },
                 Field::Text => interface::Reply { value: 0, text_start: 4, text_length: text.len(), ..plain },
+                Field::Validity => interface::Reply { value: if reply_value == 0 { 0 } else { 1 }, ..plain },
                 Field::ErrorCode => {
                     interface::Reply { refusal: 15, code: reply_value as u8, bit7, ..Default::default() }
                 }
@@ -455,6 +492,32 @@ fn replies_round_trip(section: &mut Section) {
                 expected,
                 library.read_reply(address, request, value, &body),
             );
+        }
+    }
+}
+
+/// What is read, written and read again is the same reply; byte for byte but for a string and a validity byte over 1.
+fn replies_read_again(section: &mut Section) {
+    let library = Library { null_for_empty: false };
+    for _ in 0..section.times(200_000) {
+        let random = &mut section.random;
+        let (address, request, value) = asked(random);
+        let body = generate::near_reply_body(random, address, request);
+        let read = library.read_reply(address, request, value, &body);
+        let text = body.get(read.text_start..read.text_start + read.text_length).unwrap_or(&[]);
+        let (reply, carried) = if read.refusal == 15 { (DEVICE_ERROR, u32::from(read.code)) } else { (read.reply, read.value) };
+        if ![0, 15].contains(&read.refusal) || text.len() > 254 {
+            continue;
+        }
+        let mut out = [0; 600];
+        let written = library.write_reply(address, request, value, reply, carried, text, read.bit7, &mut out);
+        let again = body_by_library(section, 1, &out[..written.length]);
+        section.expect("a reply that was read is written", 0, written.refusal);
+        section.expect("a reply is read again", read, library.read_reply(address, request, value, &again));
+        match REPLIES[usize::from(reply)] {
+            Field::Text => section.expect("its text", text, again.get(4..4 + text.len()).unwrap_or(&[])),
+            Field::Validity => section.expect("its bytes where they are 00 or 01", body[4] < 2, again == body),
+            _ => section.expect("its bytes", &body, &again),
         }
     }
 }
@@ -652,6 +715,7 @@ fn main() {
     report.section("write a reply: every number", every_reply_section);
     report.section("read a reply", read_reply_section);
     report.section("read a reply: every state and length", every_state_section);
+    report.section("validity: every byte and many values", every_validity_section);
     report.section("a fresh receiver", fresh_section);
     report.section("receiver: every short stream", short_streams_section);
     report.section("receiver: series of calls", series_section);
@@ -662,6 +726,7 @@ fn main() {
     report.section("receiver: ranges of a record", ranges_section);
     report.section("requests written and read back", requests_round_trip);
     report.section("replies written and read back", replies_round_trip);
+    report.section("replies read, written and read again", replies_read_again);
     report.section("words: all of them", every_word_section);
     report.section("read words", read_words_section);
     report.section("write words", write_words_section);

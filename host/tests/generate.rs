@@ -83,7 +83,7 @@ pub fn value_for(random: &mut Random, field: Field) -> u32 {
     match field {
         Field::Address => random.below(255) as u32,
         Field::Baud => random.pick(&BAUD_RATES),
-        Field::Validity => random.below(2) as u32,
+        Field::Validity => random.pick(&[0, 0, 1, 1, 2, 0x2A, 0x7D, 0x7E, 0xFF, 0x100, 0x2A00_0000]),
         Field::ErrorCode => random.between(1, 127) as u32,
         Field::U16 => random.pick(&[0x7E7D, 0x1113, 0xFFFF, 0]) ^ random.below(2) as u32,
         Field::Float if random.one_in(2) => random.pick(&CODINGS),

@@ -387,10 +387,9 @@ fn width(field: Field) -> Option<usize> {
 /// Refusal 12 of a number.
 fn out_of_range(field: Field, value: u32) -> bool {
     match field {
-        Nothing | Float | U32 | Text => false,
+        Nothing | Float | U32 | Validity | Text => false,
         U16 => value > 65_535,
         Address => value > 254,
-        Validity => value > 1,
         Baud => !BAUD_RATES.contains(&value),
         ErrorCode => value < 1 || value > 127,
     }
@@ -409,14 +408,23 @@ fn not_for_a_reply(field: Field, value: u32) -> bool {
     field == Float && !is_finite(value) && !CODINGS.contains(&value)
 }
 
-/// A number as the field's bytes, the highest first.
+/// A number as the field's bytes, the highest first. Of a validity, 02 (ii): yes is sent as 01.
 fn big_endian(field: Field, value: u32) -> Vec<u8> {
-    let all = value.to_be_bytes();
+    let sent = if field == Validity && value > 0 { 1 } else { value };
+    let all = sent.to_be_bytes();
     all[4 - width(field).unwrap_or(0)..].to_vec()
 }
 
 fn number(bytes: &[u8]) -> u32 {
     bytes.iter().fold(0, |so_far, &byte| so_far * 256 + u32::from(byte))
+}
+
+/// What a field's bytes say. A validity is yes, 1, for all of 1 to 255.
+fn said(field: Field, bytes: &[u8]) -> u32 {
+    match (field, bytes) {
+        (Validity, [1..=255]) => 1,
+        _ => number(bytes),
+    }
 }
 
 /// A request's own refusals, as its writer and both reply jobs begin with them. 11 comes before all else.
@@ -541,7 +549,7 @@ pub fn read_reply(address: u8, request: u8, value: u32, body: &[u8]) -> Reply {
         let text_length = data.iter().position(|&byte| byte == 0).unwrap_or(data.len());
         return Reply { bit7, reply: row.reply, text_start: 4, text_length, ..Reply::default() };
     }
-    let value = number(data);
+    let value = said(field, data);
     match first(&[(12, out_of_range(field, value)), (13, not_for_a_reply(field, value))]) {
         0 => Reply { bit7, reply: row.reply, value, ..Reply::default() },
         refusal => with(refusal),

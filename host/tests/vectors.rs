@@ -246,6 +246,8 @@ const fn device_error(code: u8) -> Reply {
 const SETPOINT: Asked = (0, 0, 0);
 const MEASURED: Asked = (0, 2, 0);
 const VALIDITY: Asked = (0, 11, 0);
+const NO: &str = "7E 00 40 00 01 00 BE 7E";
+const YES: &str = "7E 00 40 00 01 01 BD 7E";
 const VOLATILE: Asked = (0, 15, 1);
 const BAUD: Asked = (0, 18, 0);
 
@@ -319,12 +321,11 @@ const REPLIES: &[(Asked, &str, Reply)] = &[
     (SETPOINT, "7E 00 00 00 04 7F 7F FF FF FF 7E", reply(1, 0x7F7F_FFFF)),
     (SETPOINT, "7E 00 00 00 04 00 00 00 01 FA 7E", reply(1, 1)),
     // Validity and address
-    (VALIDITY, "7E 00 40 00 01 00 BE 7E", reply(9, 0)),
-    (VALIDITY, "7E 00 40 00 01 01 BD 7E", reply(9, 1)),
-    (VALIDITY, "7E 00 40 00 01 02 BC 7E", no_reply(12)),
-    (VALIDITY, "7E 00 40 00 01 2A 94 7E", no_reply(12)),
-    (VALIDITY, "7E 00 40 00 01 FF BF 7E", no_reply(12)),
+    (VALIDITY, NO, reply(9, 0)),
+    (VALIDITY, YES, reply(9, 1)),
     (VALIDITY, "7E 00 40 2A 00 95 7E", device_error(42)),
+    (VALIDITY, "7E 00 40 00 00 BF 7E", no_reply(14)),
+    (VALIDITY, "7E 00 40 00 02 2A 2A 69 7E", no_reply(14)),
     ((0, 16, 0), "7E 00 90 00 01 FF 6F 7E", no_reply(12)),
     // The request's own refusals come before the reply is looked at; a request to all has no reply
     ((255, 17, 5), "7E FF 90 00 00 70 7E", no_reply(10)),
@@ -347,6 +348,34 @@ fn replies(section: &mut Section) {
             };
             let again = write_reply(on, *asked, to_write, &[]);
             section.expect(&format!("{name} writes {wire}"), Ok(hex(wire)), again);
+        }
+    }
+}
+
+/// 02 (ii): bytes over 1 are yes, and yes is written as 01.
+const VALIDITIES: &[(&str, Reply, &str)] = &[
+    ("7E 00 40 00 01 02 BC 7E", reply(9, 1), YES),
+    ("7E 00 40 00 01 2A 94 7E", reply(9, 1), YES),
+    ("7E 00 40 00 01 FF BF 7E", reply(9, 1), YES),
+    ("7E 00 40 80 01 2A 14 7E", flagged(reply(9, 1)), "7E 00 40 80 01 01 3D 7E"),
+    ("7E 00 40 00 01 7D 5E 40 7E", reply(9, 1), YES),
+    ("7E 00 40 00 01 7D 31 AD 7E", reply(9, 1), YES),
+];
+
+fn validities(section: &mut Section) {
+    for (wire, expected, rewritten) in VALIDITIES {
+        for (name, on) in both() {
+            let body = body_of(on, 1, wire);
+            let found = on.read_reply(VALIDITY.0, VALIDITY.1, VALIDITY.2, &body);
+            section.expect(&format!("{name} reads {wire}"), *expected, found);
+            let again = write_reply(on, VALIDITY, found, &[]);
+            section.expect(&format!("{name} writes what {wire} says"), Ok(hex(rewritten)), again);
+        }
+    }
+    for (value, wire) in [(0, NO), (1, YES), (2, YES), (0x2A, YES), (0xFF, YES), (0x100, YES), (u32::MAX, YES)] {
+        for (name, on) in both() {
+            let found = write_reply(on, VALIDITY, reply(9, value), &[]);
+            section.expect(&format!("{name} writes validity {value}"), Ok(hex(wire)), found);
         }
     }
 }
@@ -719,6 +748,7 @@ fn scaled(section: &mut Section) {
 pub fn run(report: &mut Report) {
     report.section("vectors: requests", requests);
     report.section("vectors: replies", replies);
+    report.section("vectors: validities", validities);
     report.section("vectors: texts and orders", texts);
     report.section("vectors: streams", streams);
     report.section("vectors: checksum and CRC", sums);

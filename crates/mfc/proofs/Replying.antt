@@ -70,19 +70,18 @@ wide-error n h = go (eqb n 0) (lt-ltb 127 n (omega arith))
     go false e = e
 
 wide-out : (place n : ℕ) → tooWide place n ≡ true → Wide place n
-wide-out place n = go (eqb place 5) (eqb place 6) (eqb place 9) (eqb place 12) (eqb place 15) refl refl refl refl refl
+wide-out place n = go (eqb place 5) (eqb place 6) (eqb place 12) (eqb place 15) refl refl refl refl
   where
     at : (k : ℕ) → eqb place k ≡ true → Wide k n → Wide place n
     at k e w = subst (λ (p : ℕ). Wide p n) (sym (eqb-true place k e)) w
 
-    go : (a b c d e : Bool) → eqb place 5 ≡ a → eqb place 6 ≡ b → eqb place 9 ≡ c → eqb place 12 ≡ d → eqb place 15 ≡ e
-        → cond (a || b) (ltb 65535 n) (cond (c || d || e) (ltb 255 n) false) ≡ true → Wide place n
-    go true b c d e p q r s t h = at 5 p (refl, h)
-    go false true c d e p q r s t h = at 6 q (refl, h)
-    go false false true d e p q r s t h = at 9 r (refl, lt-ltb 1 n (omega (arith, ltb-true 255 n h)))
-    go false false false true e p q r s t h = at 12 s (refl, lt-ltb 254 n (omega (arith, ltb-true 255 n h)))
-    go false false false false true p q r s t h = at 15 t (refl, wide-error n (ltb-true 255 n h))
-    go false false false false false p q r s t h = absurd (true≢false (sym h))
+    go : (a b c d : Bool) → eqb place 5 ≡ a → eqb place 6 ≡ b → eqb place 12 ≡ c → eqb place 15 ≡ d
+        → cond (a || b) (ltb 65535 n) (cond (c || d) (ltb 255 n) false) ≡ true → Wide place n
+    go true b c d p q r s h = at 5 p (refl, h)
+    go false true c d p q r s h = at 6 q (refl, h)
+    go false false true d p q r s h = at 12 r (refl, lt-ltb 254 n (omega (arith, ltb-true 255 n h)))
+    go false false false true p q r s h = at 15 s (refl, wide-error n (ltb-true 255 n h))
+    go false false false false p q r s h = absurd (true≢false (sym h))
 
 -- ---- why a reply cannot be said
 module _ (address : ℕ) (request : Request) (place : ℕ) where

@@ -11,14 +11,14 @@ use Rattle.sfc6.specs.Commands.{requestAt}
 use Rattle.sfc6.specs.Requests.{requestChecks}
 use Rattle.replies.specs.declared.Reply.{Reply}
 use Rattle.replies.specs.declared.Reply.the-variants.{Acknowledged, Setpoint, MeasuredValue, Gain, InitStep, RawFlow, RawConductivity, Temperature, NumberOfCalibrations, Validity, FullScale, Calibration, Address, Baud, ProductType, DeviceError}
-use Rattle.replies.specs.Replies.{bitsOf, readingOf, kindOf}
+use Rattle.replies.specs.Replies.{bitsOf, readingOf, validityOf, validityByte, kindOf}
 use Rattle.replies.specs.Reader.{Got, value, text, readReply}
 use Rattle.replies.specs.Writer.{writeReply}
 use Rattle.mfc.specs.declared.answers.MfcWritten.{MfcWritten}
 use Rattle.mfc.specs.declared.answers.MfcReply.{MfcReply}
 use Rattle.mfc.specs.Answers.{carriedBy, written, beside}
 
--- the replies, 0 to 14, each waiting for its value; a float reading crosses as its bits
+-- the replies, 0 to 14, each waiting for its value; a float reading crosses as its bits, a validity as 0 for no, else yes
 abbrev pub replies : List (ℕ → Reply)
 replies =
     (λ n. Acknowledged)
@@ -30,7 +30,7 @@ replies =
     ∷ RawConductivity
     ∷ (λ n. Temperature (readingOf n))
     ∷ NumberOfCalibrations
-    ∷ Validity
+    ∷ (λ n. Validity (validityOf n))
     ∷ (λ n. FullScale (readingOf n))
     ∷ Calibration
     ∷ Address
@@ -53,7 +53,7 @@ writeAnswer address n v place w said bit7 room =
     (cond (ltb 15 place) (written (noReply address (requestAt n v)), room)
     (beside written (writeReply address (requestAt n v) (replyAt place w) said (not (eqb bit7 0)) room)))
 
--- the value that a reply carries, a float by its bits; 0 where it carries none
+-- the value that a reply carries, a float by its bits, a validity by the byte that it is sent as; 0 where it carries none
 abbrev pub valueOf : Reply → ℕ
 valueOf Acknowledged = 0
 valueOf (Setpoint x) = bitsOf x
@@ -64,7 +64,7 @@ valueOf (RawFlow n) = n
 valueOf (RawConductivity n) = n
 valueOf (Temperature x) = bitsOf x
 valueOf (NumberOfCalibrations n) = n
-valueOf (Validity v) = v
+valueOf (Validity v) = validityByte v
 valueOf (FullScale x) = bitsOf x
 valueOf (Calibration n) = n
 valueOf (Address a) = a

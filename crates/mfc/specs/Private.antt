@@ -14,7 +14,7 @@ use Rattle.mfc.specs.Answering.{replyAt, noReply}
 
 -- a value that is wider than what the reply of a number carries: a u16 or a byte
 abbrev pub tooWide : ℕ → ℕ → Bool
-tooWide place n = cond (eqb place 5 || eqb place 6) (ltb 65535 n) (cond (eqb place 9 || eqb place 12 || eqb place 15) (ltb 255 n) false)
+tooWide place n = cond (eqb place 5 || eqb place 6) (ltb 65535 n) (cond (eqb place 12 || eqb place 15) (ltb 255 n) false)
 
 -- what such a reply, and one over 15, is refused with: the request's own 12, 13, 10, then 14, 12
 unfoldable pub refusalOf : ℕ → Request → ℕ → Answered ℕ

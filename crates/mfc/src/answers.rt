@@ -46,7 +46,7 @@ pub struct MfcReply {
     pub bit7: u8,
     // The reply's number, 0 to 14.
     pub reply: u8,
-    // The value that it carries, a float by its bits.
+    // The value that it carries, a float by its bits, a validity as 0 for no and 1 for yes.
     pub value: u32,
     // Where the text of a product type starts in the body: at 4, also an empty one.
     pub text_start: usize,

@@ -49,7 +49,7 @@ fn reply_of(number: u8, n: u32) -> Reply
         6 => Reply::RawConductivity(low16(n)),
         7 => Reply::Temperature(replies::reading_of(n)),
         8 => Reply::NumberOfCalibrations(n),
-        9 => Reply::Validity(low(n)),
+        9 => Reply::Validity(n != 0),
         10 => Reply::FullScale(replies::reading_of(n)),
         11 => Reply::Calibration(n),
         12 => Reply::Address(low(n)),
@@ -132,7 +132,7 @@ fn value_of(reply: Reply) -> u32
         Reply::RawConductivity(n) => wide16(n),
         Reply::Temperature(x) => replies::bits_of_reading(x),
         Reply::NumberOfCalibrations(n) => n,
-        Reply::Validity(v) => wide(v),
+        Reply::Validity(v) => wide(bit(v)),
         Reply::FullScale(x) => replies::bits_of_reading(x),
         Reply::Calibration(n) => n,
         Reply::Address(a) => wide(a),
@@ -149,7 +149,6 @@ fn is_too_wide(number: u8, n: u32) -> bool
     match number {
         5 => 65535 < n,
         6 => 65535 < n,
-        9 => 255 < n,
         12 => 255 < n,
         15 => 255 < n,
         _ => false,
@@ -209,9 +208,10 @@ fn write_known(
 // Writes the frame of the reply to a request. The n bytes of text are those of a product type; beside any other reply they are not looked
 // at. bit7 is bit 7 of the state: 0 for no, else yes. Refusals, in their order: 11 for a request over 20; 12, 13 and 10 of the request
 // itself, as of mfc_write_request; 14 for a request to 255, a reply over 15, or one that is neither expected nor a device error; 12 for a
-// raw flow or raw conductivity over 65,535, an address over 254, a validity over 1, a baud that is none of the five, an error code outside
-// 1 to 127, or a text that holds a 00 or is over 254 bytes; 13 for a float that is neither finite nor one of the three codings; 1 where
-// the frame is longer than room (MFC_REPLY_ROOM bytes hold any). A text too long for a frame is 12 already, so refusal 5 does not come.
+// raw flow or raw conductivity over 65,535, an address over 254, a baud that is none of the five, an error code outside 1 to 127, or a
+// text that holds a 00 or is over 254 bytes; 13 for a float that is neither finite nor one of the three codings; 1 where the frame is
+// longer than room (MFC_REPLY_ROOM bytes hold any). A validity is 0 for no, else yes, which is sent as 01. A text too long for a frame is
+// 12 already, so refusal 5 does not come.
 #[no_mangle]
 pub extern "C" fn mfc_write_reply(
     address: u8,
@@ -289,7 +289,8 @@ fn of_read(r: ReadReply) -> MfcReply
 // Reads the reply to a request from the n bytes of its unstuffed body, checksum included. Refusals, in their order: 11 for a request over
 // 20; 12, 13 and 10 of the request itself, as of mfc_write_request; 5 to 8 of the body (over 260 bytes, under 5, L wrong, checksum wrong);
 // 14 for a request to 255, another address or command, data beside an error code, or a data length not in the table; 15 for a device
-// error; 12 for a validity, an address or a baud out of range; 13 for a float that is neither finite nor one of the three codings.
+// error; 12 for an address or a baud out of range; 13 for a float that is neither finite nor one of the three codings. A validity is
+// answered as 0 where its byte is 0, else as 1.
 #[no_mangle]
 pub extern "C" fn mfc_read_reply(address: u8, request: u8, value: u32, body: &[u8]) -> MfcReply
     ensures { λ r. ⌜ r ≡ readAnswer address request value (now (body .entry)) ⌝ }

@@ -23,7 +23,7 @@ use Rattle.replies.specs.Writer.{badText, dataOf, replyChecks, frameFor,
 use Rattle.replies.proofs.Carried.{or-false}
 
 -- data of which no text is refused are at most 255 bytes
-data-short : (c : Content) (words : List ℕ) → badText c words ≡ false → ltb 255 (length (dataOf c words)) ≡ false
+pub data-short : (c : Content) (words : List ℕ) → badText c words ≡ false → ltb 255 (length (dataOf c words)) ≡ false
 unfolding bigEndian
 data-short Nothing words h = refl
 data-short (Float x) words h = refl

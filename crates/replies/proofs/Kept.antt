@@ -3,13 +3,13 @@ use mathlib.Core.Path.{_≡_, refl, sym, ap, subst, _∙_}
 use mathlib.Core.Bool.{Bool, true, false, cond, not, _||_}
 use mathlib.Core.List.{List, [], _∷_, _++_}
 use mathlib.Core.Option.{Option, none, some}
-use Prim.Native.Nat.{ℕ, _^_, _<_}
+use Prim.Native.Nat.{ℕ, _^_, _≤_, _<_}
 use native.Mathlib.Omega.{arith}
 use lib.Dec.{T, eqb, ltb}
 use lib.ListN.{length}
-use lib.Ieee.{Float, binary32, toBits, ofBits}
+use lib.Ieee.{binary32, toBits, ofBits}
 use lib.Ieee.Bits.{ofBits-toBits, toBits-lt, toBits-ofBits}
-use borrow.Author.Tests.{eq-eqb, ne-eqb, eqb-true, eqb-false, not-false}
+use borrow.Author.Tests.{eq-eqb, ne-eqb, eqb-true, eqb-false, ltb-false, ltb-true, not-false}
 use Rattle.refusal.specs.Refusals.{served}
 use Rattle.payload.specs.Field.{big, bigEndian, Bytes}
 use Rattle.payload.proofs.Big.{big-of-big-endian, big-lt, big-endian-of-big}
@@ -23,10 +23,11 @@ use Rattle.replies.specs.declared.Reading.{Reading}
 use Rattle.replies.specs.declared.Reading.the-variants.{Finite, Invalid, PlusInfinity, MinusInfinity}
 use Rattle.replies.specs.declared.Reply.{Reply}
 use Rattle.replies.specs.declared.Reply.the-variants.{Acknowledged, Setpoint, MeasuredValue, Gain, InitStep, RawFlow, RawConductivity, Temperature, NumberOfCalibrations, Validity, FullScale, Calibration, Address, Baud, ProductType, DeviceError}
-use Rattle.replies.specs.Replies.{bitsOf, readingOf, replyTo, kindOf, contentOf, notFinite, badFloat}
+use Rattle.replies.specs.declared.Content.the-variants as content
+use Rattle.replies.specs.Replies.{bitsOf, readingOf, validityOf, validityByte, replyTo, kindOf, contentOf, notFinite, badFloat}
 use Rattle.replies.specs.Writer.{badText, dataOf, codeOf}
 use Rattle.replies.specs.Reader.{sizeOf, isSize, value, text, gotBy}
-use Rattle.replies.specs.ReadBack.{FitsReading, Fits, comesBack}
+use Rattle.replies.specs.ReadBack.{FitsReading, Fits, comesBack, overOne}
 use Rattle.replies.proofs.Carried.{or-false}
 use Rattle.replies.proofs.Text.{text-kept}
 use Rattle.replies.proofs.Table.{contentFrom, replyAt, answerAt, tabled}
@@ -88,6 +89,19 @@ bad-pattern n h = go (eqb n 0xFFFFFFFF) (eqb n 0x7F800000) (eqb n 0xFF800000) re
     go false false false p q r =
         simp (p, q, r, flipped n 0xFFFFFFFF p, flipped n 0x7F800000 q, flipped n 0xFF800000 r) (nan-or-not n h ∙ ap not (sym (or-nothing (finite n))))
 
+-- ---- validities
+validity-back : (v : Bool) → validityOf (big (bigEndian 1 (validityByte v))) ≡ v
+validity-back true = rw (big-of-big-endian 1 1 (omega arith)) refl
+validity-back false = rw (big-of-big-endian 1 0 (omega arith)) refl
+
+-- the other way: a byte comes back where it is not over 1
+validity-byte-back : (n : ℕ) → ltb 1 n ≡ false → validityByte (validityOf n) ≡ n
+validity-byte-back n h = go (eqb n 0) refl
+  where
+    go : (z : Bool) → eqb n 0 ≡ z → validityByte (not z) ≡ n
+    go true p = sym (eqb-true n 0 p)
+    go false p = let l : n ≤ 1 = ltb-false 1 n h in let u : n ≡ 0 → ⊥ = eqb-false n 0 p in omega (arith, l, u)
+
 -- ---- a reply that is written and read
 -- what its data are read as
 pub record Back (q : Request) (r : Reply) (words : List ℕ) : Type 0 where
@@ -121,7 +135,7 @@ back q (RawFlow n) words h f t m e = number-back q (RawFlow n) words 5 e 2 refl 
 back q (RawConductivity n) words h f t m e = number-back q (RawConductivity n) words 6 e 2 refl refl (ap RawConductivity (big-of-big-endian 2 n h)) refl
 back q (Temperature x) words h f t n e = number-back q (Temperature x) words 7 e 4 refl refl (ap Temperature (reading-back x h f)) refl
 back q (NumberOfCalibrations n) words h f t m e = number-back q (NumberOfCalibrations n) words 8 e 4 refl refl (ap NumberOfCalibrations (big-of-big-endian 4 n h)) refl
-back q (Validity n) words h f t m e = number-back q (Validity n) words 9 e 1 refl refl (ap Validity (big-of-big-endian 1 n h)) refl
+back q (Validity v) words h f t m e = number-back q (Validity v) words 9 e 1 refl refl (ap Validity (validity-back v)) refl
 back q (FullScale x) words h f t n e = number-back q (FullScale x) words 10 e 4 refl refl (ap FullScale (reading-back x h f)) refl
 back q (Calibration n) words h f t m e = number-back q (Calibration n) words 11 e 4 refl refl (ap Calibration (big-of-big-endian 4 n h)) refl
 back q (Address n) words h f t m e = number-back q (Address n) words 12 e 1 refl refl (ap Address (big-of-big-endian 1 n h)) refl
@@ -140,7 +154,7 @@ back q (DeviceError code) words h f t n e = absurd (n refl)
 
 -- ---- data that are read and written
 pub record Again (a : Answer) (payload words : List ℕ) : Type 0 where
-  pub same : dataOf (contentFrom a (big payload)) words ≡ payload
+  pub same : overOne (contentFrom a (big payload)) payload ≡ false → dataOf (contentFrom a (big payload)) words ≡ payload
   pub free : badText (contentFrom a (big payload)) words ≡ false
   pub no-code : codeOf (contentFrom a (big payload)) ≡ 0
 
@@ -158,24 +172,39 @@ small payload width b e = subst (λ (w : ℕ). big payload < 256 ^ w) e (big-lt 
 pub again : (a : Answer) (payload words : List ℕ) (width : ℕ) → Bytes payload → sizeOf a ≡ some width → length payload ≡ width
     → badFloat (contentFrom a (big payload)) ≡ false → Again a payload words
 unfolding contentFrom
-again answer.Nothing payload words width b s e f = let w : 0 ≡ width = cc in record { same = empty payload (omega arith); free = refl; no-code = refl }
+again answer.Nothing payload words width b s e f = let w : 0 ≡ width = cc in record { same = λ o. empty payload (omega arith); free = refl; no-code = refl }
 again answer.Float payload words width b s e f =
     let w : 4 ≡ width = cc in
     let l : length payload ≡ 4 = omega arith in
-    record { same = bytes-again payload 4 _ b l (pattern-back (big payload) (small payload 4 b l) f); free = refl; no-code = refl }
+    record { same = λ o. bytes-again payload 4 _ b l (pattern-back (big payload) (small payload 4 b l) f); free = refl; no-code = refl }
 again answer.U16 payload words width b s e f =
     let w : 2 ≡ width = cc in
-    record { same = bytes-again payload 2 _ b (omega arith) refl; free = refl; no-code = refl }
+    record { same = λ o. bytes-again payload 2 _ b (omega arith) refl; free = refl; no-code = refl }
 again answer.U32 payload words width b s e f =
     let w : 4 ≡ width = cc in
-    record { same = bytes-again payload 4 _ b (omega arith) refl; free = refl; no-code = refl }
+    record { same = λ o. bytes-again payload 4 _ b (omega arith) refl; free = refl; no-code = refl }
 again answer.Validity payload words width b s e f =
     let w : 1 ≡ width = cc in
-    record { same = bytes-again payload 1 _ b (omega arith) refl; free = refl; no-code = refl }
+    record { same = λ o. bytes-again payload 1 _ b (omega arith) (validity-byte-back (big payload) o); free = refl; no-code = refl }
 again answer.Address payload words width b s e f =
     let w : 1 ≡ width = cc in
-    record { same = bytes-again payload 1 _ b (omega arith) refl; free = refl; no-code = refl }
+    record { same = λ o. bytes-again payload 1 _ b (omega arith) refl; free = refl; no-code = refl }
 again answer.Baud payload words width b s e f =
     let w : 4 ≡ width = cc in
-    record { same = bytes-again payload 4 _ b (omega arith) refl; free = refl; no-code = refl }
+    record { same = λ o. bytes-again payload 4 _ b (omega arith) refl; free = refl; no-code = refl }
 again answer.Text payload words width b s e f = absurd (let z : _≡_ {A = ℕ} 0 1 = cc in omega arith)
+
+-- a byte over 1 is that of a validity, and is yes
+pub over-one-yes : (a : Answer) (payload : List ℕ) → overOne (contentFrom a (big payload)) payload ≡ true
+    → (contentFrom a (big payload) ≡ content.Validity true) × (1 < big payload)
+unfolding contentFrom
+over-one-yes answer.Nothing payload h = absurd (subst T (sym h) tt)
+over-one-yes answer.Float payload h = absurd (subst T (sym h) tt)
+over-one-yes answer.U16 payload h = absurd (subst T (sym h) tt)
+over-one-yes answer.U32 payload h = absurd (subst T (sym h) tt)
+over-one-yes answer.Validity payload h =
+    let l : 1 < big payload = ltb-true 1 (big payload) h in
+    (simp (ne-eqb (big payload) 0 (λ e. omega (arith, e, l))), l)
+over-one-yes answer.Address payload h = absurd (subst T (sym h) tt)
+over-one-yes answer.Baud payload h = absurd (subst T (sym h) tt)
+over-one-yes answer.Text payload h = absurd (subst T (sym h) tt)

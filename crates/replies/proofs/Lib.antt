@@ -10,6 +10,7 @@ pub mod Answers
 pub mod Kept
 pub mod Written
 pub mod Rewritten
+pub mod Validity
 pub mod ReadBack
 pub mod OneToOne
 pub mod Accepted

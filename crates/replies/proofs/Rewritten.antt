@@ -4,9 +4,9 @@ use mathlib.Core.Logic.{⊎-elim}
 use mathlib.Core.Bool.{Bool, true, false, cond, not, _||_, _&&_}
 use mathlib.Core.List.{List, [], _∷_, _++_}
 use mathlib.Core.Option.{Option, none, some}
-use Prim.Native.Nat.{ℕ, zero, suc, _+_, _-_, _%_, _≤_, _<_}
+use Prim.Native.Nat.{ℕ, suc, _+_, _-_, _%_, _≤_, _<_}
 use native.Mathlib.Omega.{arith}
-use lib.Dec.{T, eqb, ltb, leb}
+use lib.Dec.{T, eqb, leb}
 use lib.ListN.{length, getD, take, drop, length-append, length-take, length-drop}
 use lib.Seq.{take-take}
 use borrow.Author.Tests.{lt-ltb, le-ltb, leb-true, leb-false, eqb-true, ltb-false, not-false}
@@ -20,7 +20,7 @@ use Rattle.shdlc.specs.Frame.{withChecksum, frameOf}
 use Rattle.shdlc.specs.Stuffing.{stuff}
 use Rattle.shdlc.specs.ReadBack.{closed}
 use Rattle.shdlc.proofs.Body.{Passes, passes, checked-body}
-use Rattle.payload.specs.Field.{big, bigEndian, Bytes}
+use Rattle.payload.specs.Field.{big, Bytes}
 use Rattle.payload.proofs.Big.{take-bytes, drop-bytes}
 use Rattle.sfc6.specs.declared.Request.{Request}
 use Rattle.sfc6.specs.declared.Row.{Row}
@@ -28,11 +28,11 @@ use Rattle.sfc6.specs.Commands.{row, member}
 use Rattle.sfc6.specs.Requests.{requestChecks, checkRequest}
 use Rattle.sfc6.specs.ReadBack.{Received}
 use Rattle.sfc6.proofs.Rewritten.{received-body}
-use Rattle.sfc6.proofs.Order.{never, first-refuses, then-more, passes-or-refuses}
+use Rattle.sfc6.proofs.Order.{first-refuses, then-more, passes-or-refuses}
 use Rattle.replies.specs.declared.Reply.{Reply}
 use Rattle.replies.specs.declared.Reply.the-variants.{ProductType, DeviceError}
 use Rattle.replies.specs.declared.Content.{Content}
-use Rattle.replies.specs.declared.Content.the-variants.{Nothing, Float, U16, U32, Validity, Address, Baud, Text, Error}
+use Rattle.replies.specs.declared.Content.the-variants.{Text}
 use Rattle.replies.specs.Replies.{replyTo, kindOf, suits, contentOf, outOfRange, badFloat}
 use Rattle.replies.specs.Writer.{badText, dataOf, codeOf, stateOf, bodyOf, frameFor, writeChecks, frameToWrite, writeReply}
 use Rattle.replies.specs.Reader.{codeIn, bit7In, lengthIn, dataIn, sizeOf, isSize, foreign, textIn, Got, value, text, gotBy, valueChecks, readChecks, answerTo, reported, readReply}
@@ -42,7 +42,9 @@ use Rattle.replies.proofs.Text.{text-clean, text-first, text-no-longer}
 use Rattle.replies.proofs.Writing.{frame}
 use Rattle.replies.proofs.Answers.{not-number, got, lengths}
 use Rattle.replies.proofs.Table.{contentFrom, tabled}
-use Rattle.replies.proofs.Kept.{empty, again}
+use Rattle.replies.specs.ReadBack.{overOne}
+use Rattle.replies.proofs.Accepted.{data-short}
+use Rattle.replies.proofs.Kept.{empty, Again, again}
 use Rattle.replies.proofs.Written.{Accepted, to-write}
 
 nothing-said : {A : Type 0} {b : Bool} → none ≡ some b → A
@@ -219,31 +221,52 @@ good address q body g bit7 p =
     record { no-code = z .0; size = z .1; range = l .0; float = m .0; it = cc }
 
 -- ---- a value
-value-again : (address : ℕ) (q : Request) (body : List ℕ) → Bytes body → (r : Reply) (bit7 : Bool)
-    → readReply address q body ≡ (served (value r), some bit7) → (words room : List ℕ)
-    → writeReply address q r words bit7 room ≡ emit (closed (stuff body)) room
-value-again address q body b r bit7 h words room =
-    let p = parts address q body (served (value r)) bit7 h in
-    let g = good address q body (value r) bit7 p in
-    let payload = dataIn body in
-    let v = got-value (sizeOf (row q .answer)) q payload r (g .it) in
-    let width = v .0 in
-    let c : contentOf r ≡ contentFrom (row q .answer) (big payload) = ap contentOf (sym (v .2)) ∙ tabled q (big payload) .carried in
-    let l : length payload ≡ width =
-    payload-length address q body bit7 p ∙ eqb-true _ _ (sym (ap (λ (s : Option ℕ). isSize s (lengthIn body)) (v .1)) ∙ g .size) in
-    let float : badFloat (contentOf r) ≡ false = ap (λ (x : Reply). badFloat (contentOf x)) (sym (v .2)) ∙ g .float in
-    let w = again (row q .answer) payload words width (payload-bytes address q body bit7 p b) (v .1) l (ap badFloat (sym c) ∙ float) in
-    let d : dataOf (contentOf r) words ≡ payload = ap (λ (x : Content). dataOf x words) c ∙ w .same in
-    let a : Accepted address q r words = record {
-      request-good = p .request-good;
-      one = belongs address (row q) body (p .own) .0;
-      suit = same-kind q r (ap kindOf (sym (v .2)) ∙ tabled q (big payload) .kind);
-      in-range = ap (λ (x : Reply). outOfRange (contentOf x)) (sym (v .2)) ∙ g .range;
-      good-text = ap (λ (x : Content). badText x words) c ∙ w .free;
-      good-float = float;
-      short = subst (λ (x : List ℕ). length x ≤ 255) (sym d) (payload-short address q body bit7 p);
-    } in
-    same-bytes address q body bit7 p b r words room a d (ap codeOf c ∙ w .no-code ∙ sym (g .no-code))
+module _ (address : ℕ) (q : Request) (body : List ℕ) (b : Bytes body) (r : Reply) (bit7 : Bool) (h : readReply address q body ≡ (served (value r), some bit7)) where
+  shown : Parts address q body (served (value r)) bit7
+  shown = parts address q body (served (value r)) bit7 h
+
+  passing : Good address q body (value r)
+  passing = good address q body (value r) bit7 shown
+
+  sized : (width : ℕ) × (sizeOf (row q .answer) ≡ some width) × (replyTo q (big (dataIn body)) ≡ r)
+  sized = got-value (sizeOf (row q .answer)) q (dataIn body) r (passing .it)
+
+  pub value-carried : contentOf r ≡ contentFrom (row q .answer) (big (dataIn body))
+  value-carried = ap contentOf (sym (sized .2)) ∙ tabled q (big (dataIn body)) .carried
+
+  float-fits : badFloat (contentOf r) ≡ false
+  float-fits = ap (λ (x : Reply). badFloat (contentOf x)) (sym (sized .2)) ∙ passing .float
+
+  data-again : (words : List ℕ) → Again (row q .answer) (dataIn body) words
+  data-again words =
+      let size : isSize (some (sized .0)) (lengthIn body) ≡ true = sym (ap (λ (s : Option ℕ). isSize s (lengthIn body)) (sized .1)) ∙ passing .size in
+      again (row q .answer) (dataIn body) words (sized .0) (payload-bytes address q body bit7 shown b) (sized .1)
+      (payload-length address q body bit7 shown ∙ eqb-true _ _ size) (ap badFloat (sym value-carried) ∙ float-fits)
+
+  pub value-accepted : (words : List ℕ) → Accepted address q r words
+  value-accepted words =
+      let free : badText (contentOf r) words ≡ false = ap (λ (x : Content). badText x words) value-carried ∙ data-again words .free in
+      record {
+        request-good = shown .request-good;
+        one = belongs address (row q) body (shown .own) .0;
+        suit = same-kind q r (ap kindOf (sym (sized .2)) ∙ tabled q (big (dataIn body)) .kind);
+        in-range = ap (λ (x : Reply). outOfRange (contentOf x)) (sym (sized .2)) ∙ passing .range;
+        good-text = free;
+        good-float = float-fits;
+        short = ltb-false _ _ (data-short (contentOf r) words free);
+      }
+
+  value-again : overOne (contentOf r) (dataIn body) ≡ false → (words room : List ℕ)
+      → writeReply address q r words bit7 room ≡ emit (closed (stuff body)) room
+  value-again o words room =
+      let w = data-again words in
+      let same = w .same (ap (λ (x : Content). overOne x (dataIn body)) (sym value-carried) ∙ o) in
+      same-bytes address q body bit7 shown b r words room (value-accepted words) (ap (λ (x : Content). dataOf x words) value-carried ∙ same)
+      (ap codeOf value-carried ∙ w .no-code ∙ sym (passing .no-code))
+
+  pub value-written : (words room : List ℕ) → writeReply address q r words bit7 room ≡ emit (frame address q r words bit7) room
+  unfolding writeReply
+  value-written words room = ap (λ (x : Answered (List ℕ)). lay x room) (to-write address q r words bit7 (value-accepted words))
 
 -- ---- an error answer
 error-said : (x y : Bool) (code n : ℕ) (checks : List (Bool × Numbered)) (g : Got) → Without 15 checks
@@ -281,7 +304,7 @@ module _ (address : ℕ) (q : Request) (body : List ℕ) (place n : ℕ) (bit7 :
   abbrev words : List ℕ
   words = take n (drop place body)
 
-  found : (sizeOf (row q .answer) ≡ none) × (4 ≡ place) × (length (textIn (dataIn body)) ≡ n)
+  pub found : (sizeOf (row q .answer) ≡ none) × (4 ≡ place) × (length (textIn (dataIn body)) ≡ n)
   found = got-text (sizeOf (row q .answer)) q (dataIn body) place n (good address q body (text place n) bit7 p .it)
 
   -- the text stands at the place that is answered
@@ -295,7 +318,7 @@ module _ (address : ℕ) (q : Request) (body : List ℕ) (place n : ℕ) (bit7 :
   suit : suits q ProductType ≡ true
   suit = same-kind q ProductType (sym (tabled q 0 .text (found .0)))
 
-  length-words : length words ≡ n
+  pub length-words : length words ≡ n
   length-words = ap length text-placed ∙ found .2
 
   text-accepted : n ≤ 254 → Accepted address q ProductType words
@@ -345,8 +368,8 @@ module _ (stretch body : List ℕ) (r : Received kind.Reply stretch body) where
       e (is .1) ∙ ap (λ (s : List ℕ). emit (closed s) room) (sym (is .0))
 
   pub value-from-wire : (address : ℕ) (q : Request) (reply : Reply) (bit7 : Bool) → readReply address q body ≡ (served (value reply), some bit7)
-      → (words room : List ℕ) → writeReply address q reply words bit7 room ≡ emit (closed stretch) room
-  value-from-wire address q reply bit7 h words room = wire-again room (λ b. value-again address q body b reply bit7 h words room)
+      → overOne (contentOf reply) (dataIn body) ≡ false → (words room : List ℕ) → writeReply address q reply words bit7 room ≡ emit (closed stretch) room
+  value-from-wire address q reply bit7 h o words room = wire-again room (λ b. value-again address q body b reply bit7 h o words room)
 
   pub error-from-wire : (address : ℕ) (q : Request) (code : ℕ) (bit7 : Bool) → readReply address q body ≡ (refused (15 carrying code), some bit7)
       → (words room : List ℕ) → writeReply address q (DeviceError code) words bit7 room ≡ emit (closed stretch) room

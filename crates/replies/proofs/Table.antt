@@ -14,7 +14,7 @@ use Rattle.replies.specs.declared.Reply.{Reply}
 use Rattle.replies.specs.declared.Reply.the-variants.{Acknowledged, Setpoint, MeasuredValue, Gain, InitStep, RawFlow, RawConductivity, Temperature, NumberOfCalibrations, Validity, FullScale, Calibration, Address, Baud, ProductType}
 use Rattle.replies.specs.declared.Content.{Content}
 use Rattle.replies.specs.declared.Content.the-variants as content
-use Rattle.replies.specs.Replies.{readingOf, replyTo, kindOf, contentOf}
+use Rattle.replies.specs.Replies.{readingOf, validityOf, replyTo, kindOf, contentOf}
 use Rattle.replies.specs.Reader.{sizeOf}
 
 -- what is carried by the reply of a number, by the form that the table says
@@ -23,7 +23,7 @@ contentFrom answer.Nothing n = content.Nothing
 contentFrom answer.Float n = content.Float (readingOf n)
 contentFrom answer.U16 n = content.U16 n
 contentFrom answer.U32 n = content.U32 n
-contentFrom answer.Validity n = content.Validity n
+contentFrom answer.Validity n = content.Validity (validityOf n)
 contentFrom answer.Address n = content.Address n
 contentFrom answer.Baud n = content.Baud n
 contentFrom answer.Text n = content.Text
@@ -41,7 +41,7 @@ replyAt k =
     ∷ RawConductivity
     ∷ (λ n. Temperature (readingOf n))
     ∷ NumberOfCalibrations
-    ∷ Validity
+    ∷ (λ n. Validity (validityOf n))
     ∷ (λ n. FullScale (readingOf n))
     ∷ Calibration
     ∷ Address

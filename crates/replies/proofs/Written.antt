@@ -96,7 +96,7 @@ module _ (address : ℕ) (q : Request) (r : Reply) (words : List ℕ) (bit7 : Bo
       ∙ rw (a .one, a .suit, a .in-range, a .good-text, a .good-float, le-ltb _ _ (a .short))
 
 -- a writer that succeeds left its frame at the start of the room
-emitted : (f room after : List ℕ) (n : ℕ) → emit f room ≡ (served n, after) → take n after ≡ f
+pub emitted : (f room after : List ℕ) (n : ℕ) → emit f room ≡ (served n, after) → take n after ≡ f
 unfolding emit
 emitted f room after n = go (ltb (length room) (length f))
   where
@@ -121,7 +121,7 @@ bit7-of-state code true h = le-leb 0x80 (code + 0x80) (omega arith)
 bit7-of-state code false h = lt-leb 0x80 (code + 0) (omega arith)
 
 -- ---- the body of a reply, as it is read
-not-foreign : (address : ℕ) (r : Row) (body : List ℕ) → eqb address 255 ≡ false → getD body 0 0 ≡ address → getD body 1 0 ≡ r .command
+pub not-foreign : (address : ℕ) (r : Row) (body : List ℕ) → eqb address 255 ≡ false → getD body 0 0 ≡ address → getD body 1 0 ≡ r .command
     → cond (eqb (codeIn body) 0) (not (isSize (sizeOf (r .answer)) (lengthIn body))) (not (eqb (lengthIn body) 0)) ≡ false
     → false ≡ foreign address r body
 unfolding foreign
@@ -175,7 +175,7 @@ module _ (address : ℕ) (q : Request) (r : Reply) (words : List ℕ) (bit7 : Bo
   abbrev front : List ℕ
   front = bodyOf address (row q .command) state payload
 
-  abbrev body : List ℕ
+  abbrev pub body : List ℕ
   body = withChecksum front
 
   pub good : checkBody kind.Reply body ≡ served body

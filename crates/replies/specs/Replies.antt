@@ -27,6 +27,14 @@ readingOf bits =
     cond (eqb bits 0xFFFFFFFF) Invalid
     (cond (eqb bits 0x7F800000) PlusInfinity (cond (eqb bits 0xFF800000) MinusInfinity (Finite (ofBits binary32 bits))))
 
+-- 02 (ii), a validity by its byte: "0 is no, all others are yes."
+abbrev pub validityOf : ℕ → Bool
+validityOf n = not (eqb n 0)
+
+-- and the byte that it is sent as: "Writing yes still sends 01."
+abbrev pub validityByte : Bool → ℕ
+validityByte v = cond v 1 0
+
 -- 01, Commands of the SFC6 family, the table: the reply that answers a request, of the number that its data stand for
 abbrev pub replyTo : Request → ℕ → Reply
 replyTo request.GetSetpoint n = Setpoint (readingOf n)
@@ -40,7 +48,7 @@ replyTo request.RawFlow n = RawFlow n
 replyTo request.RawConductivity n = RawConductivity n
 replyTo request.Temperature n = Temperature (readingOf n)
 replyTo request.NumberOfCalibrations n = NumberOfCalibrations n
-replyTo (request.Validity index) n = Validity n
+replyTo (request.Validity index) n = Validity (validityOf n)
 replyTo request.FullScale n = FullScale (readingOf n)
 replyTo request.GetCalibration n = Calibration n
 replyTo (request.SetCalibration c) n = Acknowledged
@@ -93,14 +101,14 @@ contentOf (Baud rate) = content.Baud rate
 contentOf ProductType = content.Text
 contentOf (DeviceError code) = content.Error code
 
--- 01, Refusal numbers, row 12, "a value out of its range": a u16 ends at 65,535, validity is 0 or 1, an address 0 to 254, a baud one of
--- the five, an error code 1 to 127
+-- 01, Refusal numbers, row 12, "a value out of its range": a u16 ends at 65,535, an address is 0 to 254, a baud one of the five, an
+-- error code 1 to 127. 02 (ii), of a validity: "Refusal 12 no longer arises for this byte."
 abbrev pub outOfRange : Content → Bool
 outOfRange content.Nothing = false
 outOfRange (content.Float x) = false
 outOfRange (content.U16 n) = ltb 65535 n
 outOfRange (content.U32 n) = false
-outOfRange (content.Validity v) = ltb 1 v
+outOfRange (content.Validity v) = false
 outOfRange (content.Address a) = ltb 254 a
 outOfRange (content.Baud rate) = not (member rate bauds)
 outOfRange content.Text = false

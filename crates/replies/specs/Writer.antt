@@ -14,7 +14,7 @@ use Rattle.sfc6.specs.declared.Request.{Request}
 use Rattle.replies.specs.declared.Reply.{Reply}
 use Rattle.replies.specs.declared.Content.{Content}
 use Rattle.replies.specs.declared.Content.the-variants.{Nothing, Float, U16, U32, Validity, Address, Baud, Text, Error}
-use Rattle.replies.specs.Replies.{bitsOf, suits, contentOf, outOfRange, badFloat}
+use Rattle.replies.specs.Replies.{bitsOf, validityByte, suits, contentOf, outOfRange, badFloat}
 
 -- 01, Commands of the SFC6 family: "text holding 00 or over 254 bytes is 12; beside any other reply, text is not looked at"
 abbrev pub badText : Content → List ℕ → Bool
@@ -35,7 +35,7 @@ dataOf Nothing text = []
 dataOf (Float x) text = bigEndian 4 (bitsOf x)
 dataOf (U16 n) text = bigEndian 2 n
 dataOf (U32 n) text = bigEndian 4 n
-dataOf (Validity v) text = bigEndian 1 v
+dataOf (Validity v) text = bigEndian 1 (validityByte v)
 dataOf (Address a) text = bigEndian 1 a
 dataOf (Baud rate) text = bigEndian 4 rate
 dataOf Text text = text ++ (0 ∷ [])

@@ -23,7 +23,7 @@ ghost use Rattle.shdlc.specs.Frame.{frameOf};
 ghost use Rattle.shdlc.specs.Paper.{paperWritten};
 ghost use Rattle.payload.specs.Field.{big, bigEndian, bytesIn};
 ghost use Rattle.sfc6.specs.Commands.{row};
-ghost use Rattle.replies.specs.Replies.{bitsOf, readingOf, replyTo, suits, contentOf, outOfRange, notFinite, badFloat};
+ghost use Rattle.replies.specs.Replies.{bitsOf, readingOf, validityByte, replyTo, suits, contentOf, outOfRange, notFinite, badFloat};
 ghost use Rattle.replies.specs.Writer.{badText, dataOf, stateOf, bodyOf, frameFor, writeReply};
 ghost use Rattle.replies.specs.Reader.{sizeOf, isSize, foreign, textIn, gotBy, valueChecks, withBit7, readReply};
 ghost use Rattle.replies.specs.Paper.{paperTaken, paperRead};
@@ -36,7 +36,7 @@ pub enum Reading {
     MinusInfinity,
 }
 
-// A reply, with the value that it carries. Validity is 0 for no and 1 for yes. The text of a product type stands beside it.
+// A reply, with the value that it carries. A validity is yes or no. The text of a product type stands beside it.
 pub enum Reply {
     Acknowledged,
     Setpoint(Reading),
@@ -47,7 +47,7 @@ pub enum Reply {
     RawConductivity(u16),
     Temperature(Reading),
     NumberOfCalibrations(u32),
-    Validity(u8),
+    Validity(bool),
     FullScale(Reading),
     Calibration(u32),
     Address(u8),
@@ -62,7 +62,7 @@ enum Content {
     Float(Reading),
     U16(u16),
     U32(u32),
-    Validity(u8),
+    Validity(bool),
     Address(u8),
     Baud(u32),
     Text,
@@ -134,7 +134,7 @@ fn content_of(reply: Reply) -> Content
     }
 }
 
-// 12: a value out of its range. Validity is 0 or 1, an address at most 254, a baud one of the five, an error code 1 to 127.
+// 12: a value out of its range. An address is at most 254, a baud one of the five, an error code 1 to 127.
 fn out_of_range(content: Content) -> bool
     ensures { λ r. ⌜ r ≡ outOfRange content ⌝ }
 {
@@ -144,7 +144,7 @@ fn out_of_range(content: Content) -> bool
         // Never, by its type.
         Content::U16(n) => n > 65535,
         Content::U32(_) => false,
-        Content::Validity(v) => v > 1,
+        Content::Validity(_) => false,
         Content::Address(a) => a > 254,
         Content::Baud(rate) => !sfc6::is_baud(rate),
         Content::Text => false,
@@ -334,6 +334,13 @@ fn wide16(n: u16) -> u32
     n as u32
 }
 
+// The byte that a validity is sent as.
+fn validity_byte(v: bool) -> u32
+    ensures { λ r. ⌜ (r ≡ validityByte v) × (r < 0x100) ⌝ }
+{
+    if v { 1 } else { 0 }
+}
+
 // Writes a number at the start of the lent room, and answers how many bytes it takes.
 fn put_number(out: &mut [u8], n: u32, width: Width) -> usize
     requires { ⌜ (n < 256 ^ bytesIn width) × (4 ≤ length (now out)) ⌝ }
@@ -356,7 +363,7 @@ fn put_data(out: &mut [u8], content: Content) -> usize
         Content::Float(x) => put_number(out, bits_of_reading(x), Width::Four),
         Content::U16(n) => put_number(out, wide16(n), Width::Two),
         Content::U32(n) => put_number(out, n, Width::Four),
-        Content::Validity(v) => put_number(out, wide8(v), Width::One),
+        Content::Validity(v) => put_number(out, validity_byte(v), Width::One),
         Content::Address(a) => put_number(out, wide8(a), Width::One),
         Content::Baud(rate) => put_number(out, rate, Width::Four),
         Content::Text => put_number(out, 0, Width::One),
@@ -546,7 +553,7 @@ fn reply_in(request: Request, payload: &[u8]) -> Reply
         Request::RawConductivity => Reply::RawConductivity(short(payload)),
         Request::Temperature => Reply::Temperature(float_in(payload)),
         Request::NumberOfCalibrations => Reply::NumberOfCalibrations(long(payload)),
-        Request::Validity(_) => Reply::Validity(byte(payload)),
+        Request::Validity(_) => Reply::Validity(byte(payload) != 0),
         Request::FullScale => Reply::FullScale(float_in(payload)),
         Request::GetCalibration => Reply::Calibration(long(payload)),
         Request::GetAddress => Reply::Address(byte(payload)),

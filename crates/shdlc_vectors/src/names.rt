@@ -170,7 +170,7 @@ pub(crate) fn reply_of(word: &[u8]) -> Reply {
         return Reply::NumberOfCalibrations(n);
     }
     if same(name, b"Validity") {
-        return Reply::Validity(byte_of(n));
+        return Reply::Validity(same(value, b"yes"));
     }
     if same(name, b"FullScale") {
         return Reply::FullScale(reading_of(value));
@@ -201,6 +201,14 @@ fn reading(name: &[u8], x: Reading) {
     }
 }
 
+fn validity(v: bool) {
+    if v {
+        text(b"Validity=yes");
+    } else {
+        text(b"Validity=no");
+    }
+}
+
 pub(crate) fn reply(got: Reply) {
     text(b" ");
     match got {
@@ -213,7 +221,7 @@ pub(crate) fn reply(got: Reply) {
         Reply::RawConductivity(n) => whole(b"RawConductivity", n as u32),
         Reply::Temperature(x) => reading(b"Temperature", x),
         Reply::NumberOfCalibrations(n) => whole(b"NumberOfCalibrations", n),
-        Reply::Validity(v) => whole(b"Validity", v as u32),
+        Reply::Validity(v) => validity(v),
         Reply::FullScale(x) => reading(b"FullScale", x),
         Reply::Calibration(n) => whole(b"Calibration", n),
         Reply::Address(a) => whole(b"Address", a as u32),

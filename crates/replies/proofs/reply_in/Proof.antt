@@ -11,7 +11,7 @@ use Rattle.sfc6.specs.declared.Request.{Request}
 use Rattle.sfc6.specs.Commands.{row}
 use Rattle.replies.specs.declared.Reply.{Reply}
 use Rattle.replies.specs.declared.Reply.the-variants.{Setpoint, MeasuredValue, Gain, InitStep, RawFlow, RawConductivity, Temperature, NumberOfCalibrations, Validity, FullScale, Calibration, Address, Baud}
-use Rattle.replies.specs.Replies.{replyTo}
+use Rattle.replies.specs.Replies.{validityOf, replyTo}
 use Rattle.replies.specs.Reader.{sizeOf, isSize}
 use Rattle.replies.proofs.Apart.{set-answer}
 use Rattle.replies.proofs.reply_in.Statement.{statement}
@@ -65,7 +65,7 @@ reply-in-spec =
     (λ c. known _ _ _ _ (c .before .enum-told6 .given .1) (ap RawConductivity (c .short2 .ensures)))
     (λ c. known _ _ _ _ (c .before .enum-told7 .given .1) (ap Temperature (c .float-in5 .ensures)))
     (λ c. known _ _ _ _ (c .before .enum-told8 .given .1) (ap NumberOfCalibrations (c .long .ensures)))
-    (λ c. known _ _ _ _ (c .before .enum-told9 .given .1) (ap Validity (c .byte .ensures)))
+    (λ c. known _ _ _ _ (c .before .enum-told9 .given .1) (ap (λ (n : ℕ). Validity (validityOf n)) (c .byte .ensures)))
     (λ c. known _ _ _ _ (c .before .enum-told10 .given .1) (ap FullScale (c .float-in6 .ensures)))
     (λ c. known _ _ _ _ (c .before .enum-told11 .given .1) (ap Calibration (c .long2 .ensures)))
     (λ c. known _ _ _ _ (c .before .enum-told12 .given .1) (ap Address (c .byte2 .ensures)))

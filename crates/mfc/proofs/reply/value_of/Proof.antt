@@ -1,6 +1,6 @@
 -- `mfc::reply::value_of` meets its contract: each arm knows which reply it is. Assumes nothing.
 use borrow.Author.Needs.{needs}
-use mathlib.Core.Path.{refl}
+use mathlib.Core.Path.{refl, _∙_}
 use Rattle.mfc.specs.Answering.{valueOf}
 use Rattle.mfc.proofs.Told.{told}
 use Rattle.mfc.proofs.reply.value_of.Statement.{statement}
@@ -28,6 +28,7 @@ value-of-spec =
     (λ c. search needs)
     (λ c. search needs)
     (λ c κs. search needs)
+    (λ c κs. search needs)
     (λ c. search needs)
     (λ c κs. search needs)
     (λ c. search needs)
@@ -46,7 +47,7 @@ value-of-spec =
     (λ c. told valueOf (c .before .before .reply6 .given .1) (c .wide162 .ensures))
     (λ c. told valueOf (c .before .before .reply7 .given .1) (c .bits-of-reading5 .ensures))
     (λ c. told valueOf (c .before .reply8 .given .1) refl)
-    (λ c. told valueOf (c .before .before .reply9 .given .1) (c .wide .ensures))
+    (λ c. told valueOf (c .before .before .before .reply9 .given .1) (c .wide .ensures ∙ c .before .bit .ensures))
     (λ c. told valueOf (c .before .before .reply10 .given .1) (c .bits-of-reading6 .ensures))
     (λ c. told valueOf (c .before .reply11 .given .1) refl)
     (λ c. told valueOf (c .before .before .reply12 .given .1) (c .wide2 .ensures))
