@@ -265,7 +265,6 @@ static inline uint8_t value_refusal(unsigned answers, uint32_t value)
     switch (answers) {
     case FLOAT: return value == 0xFFFFFFFFu || value == 0x7F800000u || value == 0xFF800000u ? 0 : 13;
     case SHORT: return value > 65535 ? 12 : 0;
-    case BOOLEAN: return value > 1 ? 12 : 0;
     case ADDRESS: return value > 254 ? 12 : 0;
     case BAUD: return is_baud(value) ? 0 : 12;
     default: return 0;
@@ -306,6 +305,8 @@ struct plain_written plain_write_reply(uint8_t address, uint8_t request, uint32_
         return written;
     if (reply == 15)
         state = (uint8_t)(state | reply_value);
+    if (answers == BOOLEAN)
+        reply_value = reply_value != 0;
     if (answers != TEXT)
         n = 0;
     size = answers == TEXT ? 0 : sizes[answers];
@@ -404,7 +405,7 @@ struct plain_reply plain_read_reply(uint8_t address, uint8_t request, uint32_t v
         answer.refusal = value_refusal(form->answers, number);
         if (answer.refusal != 0)
             return answer;
-        answer.value = number;
+        answer.value = form->answers == BOOLEAN ? number != 0 : number;
     }
     answer.reply = form->reply;
     answer.bit7 = body[2] >> 7;

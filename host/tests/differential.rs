@@ -241,38 +241,50 @@ fn every_state_section(section: &mut Section) {
     }
 }
 
-/// The reply to a question for validity that holds this byte, from this address, as it stands on the wire.
-fn validity_wire(address: u8, state: u8, byte: u8) -> Vec<u8> {
-    wire(&body(&[address, 0x40, state, 1, byte]))
+/// The reply to a question for validity with this byte, as it stands on the wire.
+fn validity_wire(address: u8, bit7: u8, byte: u8) -> Vec<u8> {
+    wire(&body(&[address, 0x40, 128 * bit7, 1, byte]))
 }
 
-/// 02 (ii), by what it says and not by the reference: every byte is read as yes but 0, and what was read is written as 01 or 00, so that
-/// the bytes are the same for 00 and 01 alone. Every value but 0 that the writer is offered is yes.
+/// 02 (ii), by its own words and not by the reference: every byte but 0 is read as yes, and what was read is written as
+/// 01 or 00, so that the bytes are the same for 00 and 01 alone; read again it is the same.
 fn every_validity_section(section: &mut Section) {
     let library = Library { null_for_empty: false };
-    for address in 0..255 {
-        for (bit7, state) in [(0, 0x00), (1, 0x80)] {
-            let index = section.random.u32();
-            for byte in 0..=255 {
-                let on_wire = validity_wire(address, state, byte);
-                let read = library.read_reply(address, 11, index, &body_by_library(section, 1, &on_wire));
-                let value = if byte == 0 { 0 } else { 1 };
-                section.expect("a byte of validity", interface::Reply { bit7, reply: 9, value, ..Default::default() }, read);
-                let mut out = [0; 16];
-                let written = library.write_reply(address, 11, index, read.reply, read.value, &[], read.bit7, &mut out);
-                let again = &out[..written.length];
-                section.expect("the validity that was read", (0, &validity_wire(address, state, value as u8)[..]), (written.refusal, again));
-                section.expect("the same bytes", byte < 2, again == on_wire);
-                let body = body_by_library(section, 1, again);
-                section.expect("a validity read again", read, library.read_reply(address, 11, index, &body));
-            }
-            let powers = (0..32).map(|bit| 1 << bit);
-            for value in (0..1024).chain(powers).chain([u32::MAX, section.random.u32() | 1]) {
-                let mut out = [0; 16];
-                let written = library.write_reply(address, 11, index, 9, value, &[], bit7, &mut out);
-                let expected = validity_wire(address, state, if value == 0 { 0 } else { 1 });
-                section.expect("a value of validity", (0, &expected[..]), (written.refusal, &out[..written.length]));
-            }
+    for (address, bit7) in (0..255).flat_map(|address| [(address, 0), (address, 1)]) {
+        let index = section.random.u32();
+        for byte in 0..=255 {
+            let on_wire = validity_wire(address, bit7, byte);
+            let read = library.read_reply(address, 11, index, &body_by_library(section, 1, &on_wire));
+            let value = if byte == 0 { 0 } else { 1 };
+            let yes_or_no = interface::Reply { bit7, reply: 9, value, ..Default::default() };
+            section.expect("a byte of validity", yes_or_no, read);
+            let mut out = [0; 16];
+            let written = library.write_reply(address, 11, index, read.reply, read.value, &[], read.bit7, &mut out);
+            let again = &out[..written.length];
+            section.expect(
+                "what was read",
+                (0, &validity_wire(address, bit7, value as u8)[..]),
+                (written.refusal, again),
+            );
+            section.expect("the same bytes", byte < 2, again == on_wire);
+            let body = body_by_library(section, 1, again);
+            section.expect("a validity read again", read, library.read_reply(address, 11, index, &body));
+        }
+    }
+}
+
+/// Every value but 0 that the writer is offered is yes, and is sent as 01.
+fn validity_values_section(section: &mut Section) {
+    let library = Library { null_for_empty: false };
+    for (address, bit7) in (0..255).flat_map(|address| [(address, 0), (address, 1)]) {
+        let random = &mut section.random;
+        let (index, any) = (random.u32(), random.u32() | 1);
+        let powers = (0..32).map(|bit| 1 << bit);
+        for value in (0..1024).chain(powers).chain([u32::MAX, any]) {
+            let mut out = [0; 16];
+            let written = library.write_reply(address, 11, index, 9, value, &[], bit7, &mut out);
+            let expected = validity_wire(address, bit7, if value == 0 { 0 } else { 1 });
+            section.expect("a value of validity", (0, &expected[..]), (written.refusal, &out[..written.length]));
         }
     }
 }
@@ -505,7 +517,8 @@ fn replies_read_again(section: &mut Section) {
         let body = generate::near_reply_body(random, address, request);
         let read = library.read_reply(address, request, value, &body);
         let text = body.get(read.text_start..read.text_start + read.text_length).unwrap_or(&[]);
-        let (reply, carried) = if read.refusal == 15 { (DEVICE_ERROR, u32::from(read.code)) } else { (read.reply, read.value) };
+        let (reply, carried) =
+            if read.refusal == 15 { (DEVICE_ERROR, u32::from(read.code)) } else { (read.reply, read.value) };
         if ![0, 15].contains(&read.refusal) || text.len() > 254 {
             continue;
         }
@@ -715,7 +728,8 @@ fn main() {
     report.section("write a reply: every number", every_reply_section);
     report.section("read a reply", read_reply_section);
     report.section("read a reply: every state and length", every_state_section);
-    report.section("validity: every byte and many values", every_validity_section);
+    report.section("validity: every byte", every_validity_section);
+    report.section("validity: values offered to the writer", validity_values_section);
     report.section("a fresh receiver", fresh_section);
     report.section("receiver: every short stream", short_streams_section);
     report.section("receiver: series of calls", series_section);
