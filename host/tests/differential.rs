@@ -246,8 +246,8 @@ fn validity_wire(address: u8, bit7: u8, byte: u8) -> Vec<u8> {
     wire(&body(&[address, 0x40, 128 * bit7, 1, byte]))
 }
 
-/// 02 (ii), by its own words and not by the reference: every byte but 0 is read as yes, and what was read is written as
-/// 01 or 00, so that the bytes are the same for 00 and 01 alone; read again it is the same.
+/// 02 (ii), by its own words and not by the reference's reader and writer: every byte but 0 is read as yes, and what was
+/// read is written as 01 or 00, so that the bytes are the same for 00 and 01 alone; read again it is the same.
 fn every_validity_section(section: &mut Section) {
     let library = Library { null_for_empty: false };
     for (address, bit7) in (0..255).flat_map(|address| [(address, 0), (address, 1)]) {

@@ -18,7 +18,7 @@ use Rattle.shdlc.specs.Stream.{byte, items}
 use Rattle.shdlc.specs.ReadBack.{closed}
 use Rattle.shdlc.proofs.Body.{good-body}
 use Rattle.payload.specs.Field.{big, bigEndian, Bytes}
-use Rattle.payload.proofs.Big.{big-of-big-endian}
+use Rattle.payload.proofs.Big.{big-of-big-endian, big-one}
 use Rattle.sfc6.specs.declared.Request.{Request}
 use Rattle.sfc6.specs.declared.Request.the-variants as ask
 use Rattle.sfc6.specs.Commands.{row}
@@ -111,10 +111,6 @@ module _ (stretch body : List ℕ) (received : Received kind.Reply stretch body)
       )
 
 -- ---- every byte
-big-one : (b : ℕ) → big (b ∷ []) ≡ b
-unfolding big
-big-one b = omega arith
-
 module _ (address index b state : ℕ) (bit7 : Bool) (one : address ≡ 255 → ⊥) (no-error : state % 128 ≡ 0) (flag : leb 0x80 state ≡ bit7) where
   abbrev asked : Request
   asked = ask.Validity index
@@ -136,7 +132,7 @@ module _ (address index b state : ℕ) (bit7 : Bool) (one : address ≡ 255 → 
 
   byte-read : (served (value (say.Validity (validityOf b))), some bit7) ≡ ofData asked (row asked .answer) (dataIn said) (bit7In said)
   unfolding bodyOf dataIn row
-  byte-read = rw (flag, big-one b)
+  byte-read = let n : big (b ∷ []) ≡ b = big-one (b ∷ []) 0 (omega arith) in rw (flag, n)
 
   said-byte : readReply address asked said ≡ (served (value (say.Validity (validityOf b))), some bit7)
   unfolding bodyOf

@@ -134,7 +134,8 @@ pub record ReadBack : Type 0 where
       × (items kind.Reply (map byte (take n after)) ≡ served again ∷ [])
       × (readReply address request again ≡ (served got, some bit7))
       × Beside got again words
-  -- 02 (ii), "0 is no, all others are yes", of every byte: "Refusal 12 no longer arises for this byte."
+  -- 02 (ii), "0 is no, all others are yes": a reply to command 40, subcommand 10, with one data byte is read whichever it is. "Refusal 12
+  -- no longer arises for this byte."
   pub validity-read : (address index b : ℕ) (bit7 : Bool) → (address ≡ 255 → ⊥)
       → readReply address (ask.Validity index) (withChecksum (bodyOf address 0x40 (cond bit7 0x80 0) (b ∷ [])))
       ≡ (served (value (say.Validity (not (eqb b 0)))), some bit7)
