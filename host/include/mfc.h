@@ -1,6 +1,6 @@
 /* Frames, requests and replies of SFC6 mass flow controllers on SHDLC, words and commands of
- * two sensor families on I2C, scaled readings, and the handover board. No function keeps state
- * or a pointer, or allocates. Each takes any numbers and any bytes.
+ * two sensor families on I2C, scaled readings, the handover board, and the shift log. No
+ * function keeps state or a pointer, or allocates. Each takes any numbers and any bytes.
  *
  * Compile with -Wconversion: C cuts a number that is too wide for its parameter, and address
  * 256 would be sent to 0.
@@ -25,7 +25,11 @@
  *
  * A handover board is a table of MFC_BOARD_PLACES entries that the caller keeps from call to
  * call, all of them zeros at the start. It has an entry for each valve and each temporary
- * calibration that was opened and is not yet closed, with its polls left. */
+ * calibration that was opened and is not yet closed, with its polls left.
+ *
+ * A shift log is a file of records of what crossed the wire, at most MFC_LOG_ROOM bytes: each
+ * is its body, its kind and the body's length (high byte, low byte); the last eight bytes are
+ * the number of records and the bytes of all of them, each highest byte first. */
 
 /* Made by tools/header of crates/mfc/src and the crates below it: change it there. */
 #ifndef MFC_H
@@ -38,7 +42,7 @@
 extern "C" {
 #endif
 
-/* Sizes and start values. */
+/* Sizes, start values, and the kinds of a log's records. */
 enum {
     /* The bytes of a receiver's record. */
     MFC_RECORD_SIZE = 264,
@@ -55,12 +59,23 @@ enum {
     /* The start value of the CRC of SFC6. */
     MFC_START_SFC6 = 0xFF,
     /* The places of a handover board's table. */
-    MFC_BOARD_PLACES = 32
+    MFC_BOARD_PLACES = 32,
+    /* Room for any shift log: 65,000 bytes of records, and the eight that close it. */
+    MFC_LOG_ROOM = 65008,
+    /* The numbers of a row of a log's list. */
+    MFC_LOG_ROW = 3,
+    /* A record of request-side bytes. */
+    MFC_LOG_REQUEST = 1,
+    /* A record of reply-side bytes. */
+    MFC_LOG_REPLY = 2,
+    /* A silence mark, without a body. */
+    MFC_LOG_SILENCE = 3
 };
 
 /* Refusals. */
 enum {
-    /* lent room is less than this answer needs; a board's table not of 32 places. */
+    /* lent room is less than this answer needs; a board's table not of 32 places; a log's
+     * length past the lent buffer. */
     MFC_REFUSAL_NO_ROOM = 1,
     /* receiver record outside its ranges; a board's table with an entry out of range, or with a
      * node and kind twice. */
@@ -84,7 +99,7 @@ enum {
     /* command or subcommand not in the table; subcommand missing. */
     MFC_REFUSAL_UNKNOWN_COMMAND = 11,
     /* a data length not in the table, a value out of its range, or a field past the payload's
-     * end. */
+     * end; a record that would take a log's total past 65,000. */
     MFC_REFUSAL_OUT_OF_RANGE = 12,
     /* float not allowed there. */
     MFC_REFUSAL_BAD_FLOAT = 13,
@@ -99,7 +114,16 @@ enum {
     /* scale factor outside 1 to 32,767. */
     MFC_REFUSAL_BAD_SCALE = 18,
     /* a new entry is wanted and all 32 places of the board are held. */
-    MFC_REFUSAL_BOARD_FULL = 19
+    MFC_REFUSAL_BOARD_FULL = 19,
+    /* a log under 8 bytes, a total that differs from what precedes it, or one over 65,000. */
+    MFC_REFUSAL_BAD_TOTAL = 20,
+    /* a trailer cut short or pointing before the start, at a log's newest faulty record. */
+    MFC_REFUSAL_BAD_TRAILER = 21,
+    /* an unknown kind or a kind 3 with a body, at a log's newest faulty record or in a record
+     * to be added. */
+    MFC_REFUSAL_BAD_KIND = 22,
+    /* a log's count is not the number of its records. */
+    MFC_REFUSAL_WRONG_COUNT = 23
 };
 
 /* Kinds of receivers. */
@@ -242,11 +266,12 @@ typedef struct {
     size_t taken;
 } mfc_fed;
 
-/* What reading words answers. */
+/* What reading words answers, and checking and listing a log. */
 typedef struct {
     /* The refusal's number, 0 for none. */
     uint8_t refusal;
-    /* The words stored; with refusal 17 the index of the first word whose CRC is wrong. */
+    /* The words stored, the records of a log or the rows listed; with refusal 17 the index of
+     * the first word whose CRC is wrong. */
     size_t count;
 } mfc_words;
 
@@ -454,6 +479,33 @@ uint8_t mfc_board_reply(mfc_entry *table, size_t places, uint8_t address, uint8_
  * a lease out of range where one is to be opened; 19 where it is new and all places are held. */
 uint8_t mfc_board_acknowledged(mfc_entry *table, size_t places, uint8_t address, uint16_t code,
                                uint32_t lease);
+
+/* Lays the log without records at the start of the lent file, and answers its length. Refusals:
+ * 1 where the file has not that room. */
+mfc_written mfc_log_empty(uint8_t *file, size_t room);
+
+/* Adds a record of a kind of MFC_LOG_.. and a body of n bytes to the log of that length at the
+ * start of the lent file, and answers the log's new length, 3 + n more. Refusals, in their
+ * order: 1 where the length is past the lent file; 20 to 23 as for mfc_log_check; 22 where the
+ * kind is none, or a silence mark has a body; 12 where the records would take over 65,000
+ * bytes, and the next log is to be begun; 1 where the file has not the room. */
+mfc_written mfc_log_append(uint8_t *file, size_t room, size_t length, uint8_t kind,
+                           const uint8_t *body, size_t n);
+
+/* Checks a log, and answers how many records it has. Refusals, in their order: 20 where the
+ * file has under 8 bytes, or its total is not the number of bytes before the last eight, or is
+ * over 65,000; then, at the newest faulty record, 21 where the trailer is cut short or points
+ * before the start, else 22 where the kind is none, or a silence mark has a body; 23 where the
+ * count is not the number of records. */
+mfc_words mfc_log_check(const uint8_t *file, size_t length);
+
+/* Lists a log newest first, from the record that skip others are newer than: MFC_LOG_ROW
+ * numbers a row, which are the kind, where the body starts in the file, and its length. As many
+ * rows as fit are laid at the start of rows, an array of room numbers; the answer is how many,
+ * 0 past the oldest record. Refusals, in their order: 20 to 23 as for mfc_log_check, and
+ * nothing is listed of such a file; 1 where there is a row to lay and no room for one. */
+mfc_words mfc_log_list(const uint8_t *file, size_t length, size_t skip,
+                       uint16_t *rows, size_t room);
 
 #ifdef __cplusplus
 }

@@ -17,12 +17,12 @@ abbrev pub carriedBy : Numbered → ℕ
 carriedBy (number n) = 0
 carriedBy (n carrying value) = value
 
--- the bytes written
+-- the bytes written, or a log's length
 abbrev pub written : Answered ℕ → MfcWritten
 written (served n) = record { refusal = 0; length = n }
 written (refused n) = record { refusal = numberIn n; length = 0 }
 
--- the words stored, or the index that 17 carries
+-- the words stored, or the index that 17 carries; the records of a log, or the rows listed
 abbrev pub counted : Answered ℕ → MfcWords
 counted (served n) = record { refusal = 0; count = n }
 counted (refused n) = record { refusal = numberIn n; count = carriedBy n }

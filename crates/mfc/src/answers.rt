@@ -1,6 +1,7 @@
 // The structs that C gets, and the answers of the other crates turned into them.
 use i2c::Stored;
 use i2c::register::Edited;
+use log::Answer;
 use reading::Quantity;
 use reading::Thousandths;
 use refusal::Refusal;
@@ -10,6 +11,7 @@ ghost use Rattle.refusal.specs.Refusals.{paper, refused};
 ghost use Rattle.shdlc.specs.Paper.{paperWritten};
 ghost use Rattle.i2c.specs.Answer.{paperStored};
 ghost use Rattle.i2c.specs.Register.{paperEdited};
+ghost use Rattle.log.specs.Paper.{paperAnswer};
 ghost use Rattle.reading.specs.Reading.{paperThousandths, paperQuantity};
 ghost use Rattle.mfc.specs.Answers.{carriedBy, written, counted, register, thousandths, quantity};
 
@@ -65,12 +67,12 @@ pub struct MfcFed {
     pub taken: usize,
 }
 
-// What reading words answers.
+// What reading words answers, and checking and listing a log.
 #[repr(C)]
 pub struct MfcWords {
     // The refusal's number, 0 for none.
     pub refusal: u8,
-    // The words stored; with refusal 17 the index of the first word whose CRC is wrong.
+    // The words stored, the records of a log or the rows listed; with refusal 17 the index of the first word whose CRC is wrong.
     pub count: usize,
 }
 
@@ -131,6 +133,10 @@ fn carried(r: Refusal) -> usize
         Refusal::WrongCrc(index) => index,
         Refusal::BadScale => 0,
         Refusal::BoardFull => 0,
+        Refusal::BadTotal => 0,
+        Refusal::BadTrailer => 0,
+        Refusal::BadKind => 0,
+        Refusal::WrongCount => 0,
     }
 }
 
@@ -176,6 +182,33 @@ pub(crate) fn of_words(r: Stored) -> MfcWords
             count: n,
         },
         Stored::Refused(why) => MfcWords {
+            refusal: refusal::number(why),
+            count: carried(why),
+        },
+    }
+}
+
+pub(crate) fn of_length(r: Answer) -> MfcWritten
+    ensures { λ w. ⌜ w ≡ written (paperAnswer r) ⌝ }
+{
+    match r {
+        Answer::Number(n) => MfcWritten {
+            refusal: 0,
+            length: n,
+        },
+        Answer::Refused(why) => not_written(why),
+    }
+}
+
+pub(crate) fn of_counted(r: Answer) -> MfcWords
+    ensures { λ w. ⌜ w ≡ counted (paperAnswer r) ⌝ }
+{
+    match r {
+        Answer::Number(n) => MfcWords {
+            refusal: 0,
+            count: n,
+        },
+        Answer::Refused(why) => MfcWords {
             refusal: refusal::number(why),
             count: carried(why),
         },

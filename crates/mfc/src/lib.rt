@@ -2,7 +2,7 @@
 // its first comment is the one that follows.
 
 // Frames, requests and replies of SFC6 mass flow controllers on SHDLC, words and commands of two sensor families on I2C, scaled
-// readings, and the handover board. No function keeps state or a pointer, or allocates. Each takes any numbers and any bytes.
+// readings, the handover board, and the shift log. No function keeps state or a pointer, or allocates. Each takes any numbers and any bytes.
 //
 // Compile with -Wconversion: C cuts a number that is too wide for its parameter, and address 256 would be sent to 0.
 //
@@ -22,8 +22,12 @@
 //
 // A handover board is a table of MFC_BOARD_PLACES entries that the caller keeps from call to call, all of them zeros at the start. It has
 // an entry for each valve and each temporary calibration that was opened and is not yet closed, with its polls left.
+//
+// A shift log is a file of records of what crossed the wire, at most MFC_LOG_ROOM bytes: each is its body, its kind and the body's length
+// (high byte, low byte); the last eight bytes are the number of records and the bytes of all of them, each highest byte first.
 pub mod answers;
 pub mod boards;
+pub mod logs;
 pub mod readings;
 pub mod receivers;
 pub mod reply;

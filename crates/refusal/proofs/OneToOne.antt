@@ -5,12 +5,12 @@ use mathlib.Core.List.{List, [], _∷_}
 use mathlib.Core.Bool.{cond}
 use lib.Dec.{eqb}
 use Rattle.refusal.specs.declared.Refusal.{Refusal}
-use Rattle.refusal.specs.declared.Refusal.the-variants.{NoRoom, BadRecord, BadEscape, BareControl, BodyTooLong, BodyTooShort, WrongLength, WrongChecksum, CutBySilence, AddressBroadcast, UnknownCommand, OutOfRange, BadFloat, ForeignReply, DeviceError, BadWordCount, WrongCrc, BadScale, BoardFull}
+use Rattle.refusal.specs.declared.Refusal.the-variants.{NoRoom, BadRecord, BadEscape, BareControl, BodyTooLong, BodyTooShort, WrongLength, WrongChecksum, CutBySilence, AddressBroadcast, UnknownCommand, OutOfRange, BadFloat, ForeignReply, DeviceError, BadWordCount, WrongCrc, BadScale, BoardFull, BadTotal, BadTrailer, BadKind, WrongCount}
 use Rattle.refusal.specs.Refusals.{Numbered, number, _carrying_, paper, Answered, served, refused}
 
 -- the refusal of the number at the list's place; the last of the list past its end
 nth : List Refusal → ℕ → Refusal
-nth [] n = BoardFull
+nth [] n = WrongCount
 nth (r ∷ rs) n = cond (eqb n 0) r (nth rs (pred n))
 
 plain : List Refusal
@@ -34,6 +34,10 @@ plain =
     ∷ WrongCrc 0
     ∷ BadScale
     ∷ BoardFull
+    ∷ BadTotal
+    ∷ BadTrailer
+    ∷ BadKind
+    ∷ WrongCount
     ∷ []
 
 back : Numbered → Refusal
@@ -61,6 +65,10 @@ back-paper BadWordCount = refl
 back-paper (WrongCrc value) = refl
 back-paper BadScale = refl
 back-paper BoardFull = refl
+back-paper BadTotal = refl
+back-paper BadTrailer = refl
+back-paper BadKind = refl
+back-paper WrongCount = refl
 
 pub paper-one-to-one : (r s : Refusal) → paper r ≡ paper s → r ≡ s
 paper-one-to-one r s e = sym (back-paper r) ∙ ap back e ∙ back-paper s

@@ -4,7 +4,7 @@ use Prim.Native.Nat.{ℕ}
 use mathlib.Core.Bool.{Bool, cond}
 use mathlib.Core.List.{List, [], _∷_}
 use Rattle.refusal.specs.declared.Refusal.{Refusal}
-use Rattle.refusal.specs.declared.Refusal.the-variants.{NoRoom, BadRecord, BadEscape, BareControl, BodyTooLong, BodyTooShort, WrongLength, WrongChecksum, CutBySilence, AddressBroadcast, UnknownCommand, OutOfRange, BadFloat, ForeignReply, DeviceError, BadWordCount, WrongCrc, BadScale, BoardFull}
+use Rattle.refusal.specs.declared.Refusal.the-variants.{NoRoom, BadRecord, BadEscape, BareControl, BodyTooLong, BodyTooShort, WrongLength, WrongChecksum, CutBySilence, AddressBroadcast, UnknownCommand, OutOfRange, BadFloat, ForeignReply, DeviceError, BadWordCount, WrongCrc, BadScale, BoardFull, BadTotal, BadTrailer, BadKind, WrongCount}
 
 infix 30 _carrying_
 -- 01, Refusal numbers: `number 4`, or `17 carrying 3`
@@ -33,6 +33,10 @@ paper BadWordCount = number 16
 paper (WrongCrc index) = 17 carrying index
 paper BadScale = number 18
 paper BoardFull = number 19
+paper BadTotal = number 20
+paper BadTrailer = number 21
+paper BadKind = number 22
+paper WrongCount = number 23
 
 -- the number alone
 abbrev pub numberIn : Numbered → ℕ

@@ -1,10 +1,10 @@
-// The refusals of the serial and I2C interfaces: one named case for each number of document 01's table.
+// The refusals: one named case for each number of document 01's table, and for each that document 02 adds.
 ghost use mathlib.Core.Path.{_≡_};
 ghost use Rattle.refusal.specs.Refusals.{numberOf};
 
 // Why an entry point does not serve. The comment of a case is its number and its row of the table.
 pub enum Refusal {
-    // 1: lent room is less than this answer needs; a board's table not of 32 places.
+    // 1: lent room is less than this answer needs; a board's table not of 32 places; a log's length past the lent buffer.
     NoRoom,
     // 2: receiver record outside its ranges; a board's table with an entry out of range, or with a node and kind twice.
     BadRecord,
@@ -26,7 +26,8 @@ pub enum Refusal {
     AddressBroadcast,
     // 11: command or subcommand not in the table; subcommand missing.
     UnknownCommand,
-    // 12: a data length not in the table, a value out of its range, or a field past the payload's end.
+    // 12: a data length not in the table, a value out of its range, or a field past the payload's end; a record that would take a log's
+    // total past 65,000.
     OutOfRange,
     // 13: float not allowed there.
     BadFloat,
@@ -42,6 +43,14 @@ pub enum Refusal {
     BadScale,
     // 19: a new entry is wanted and all 32 places of the board are held.
     BoardFull,
+    // 20: a log under 8 bytes, a total that differs from what precedes it, or one over 65,000.
+    BadTotal,
+    // 21: a trailer cut short or pointing before the start, at a log's newest faulty record.
+    BadTrailer,
+    // 22: an unknown kind or a kind 3 with a body, at a log's newest faulty record or in a record to be added.
+    BadKind,
+    // 23: a log's count is not the number of its records.
+    WrongCount,
 }
 
 // The number of a refusal in document 01's table.
@@ -68,5 +77,9 @@ pub fn number(r: Refusal) -> u8
         Refusal::WrongCrc(_) => 17,
         Refusal::BadScale => 18,
         Refusal::BoardFull => 19,
+        Refusal::BadTotal => 20,
+        Refusal::BadTrailer => 21,
+        Refusal::BadKind => 22,
+        Refusal::WrongCount => 23,
     }
 }
