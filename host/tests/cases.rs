@@ -291,7 +291,7 @@ pub fn kind_of(kind: u8) -> Kind {
     }
 }
 
-fn same<T: PartialEq + std::fmt::Debug>(what: &str, expected: &T, found: &T) -> Result<(), String> {
+pub fn same<T: PartialEq + std::fmt::Debug>(what: &str, expected: &T, found: &T) -> Result<(), String> {
     if expected == found {
         Ok(())
     } else {

@@ -13,6 +13,11 @@ mod generate;
 mod harness;
 mod interface;
 mod library;
+mod log;
+mod log_cases;
+mod log_generate;
+mod log_sections;
+mod log_vectors;
 mod reference;
 mod vectors;
 
@@ -716,6 +721,7 @@ fn main() {
     println!("seed {}", report.seed);
     vectors::run(&mut report);
     board_vectors::run(&mut report);
+    log_vectors::run(&mut report);
     report.section("checksum", checksum_section);
     report.section("crc", crc_section);
     report.section("write a request", write_request_section);
@@ -750,6 +756,7 @@ fn main() {
     report.section("scaled readings", scaled_section);
     report.section("scaled readings: the reference itself", float_reference_section);
     board_sections::run(&mut report);
+    log_sections::run(&mut report);
     let (sections, cases) = (report.sections, thousands(report.cases));
     println!("differential: {sections} sections, {cases} cases, {} failures", report.failures);
     if report.failures > 0 {

@@ -6,7 +6,7 @@ use crate::library::Library;
 use crate::reference::{body, Kind, Reference};
 use std::fmt::{self, Debug};
 use std::io::Write;
-use std::time::Instant;
+use std::time::{Duration, Instant};
 
 // ---- Random numbers
 
@@ -219,8 +219,11 @@ impl Smaller for bool {
     }
 }
 
+/// In longer lists only large parts are left out or set to zero, since each try is a copy of the list.
+const LONG: usize = 600;
+
 /// A list without one of its parts: the whole, the halves, and so on down to single elements.
-fn without_parts<T: Clone>(list: &[T]) -> Vec<Vec<T>> {
+pub fn without_parts<T: Clone>(list: &[T]) -> Vec<Vec<T>> {
     parts(list.len()).into_iter().map(|(from, to)| [&list[..from], &list[to..]].concat()).collect()
 }
 
@@ -238,7 +241,8 @@ fn zeroed_parts(bytes: &[u8]) -> Vec<Vec<u8>> {
 fn parts(length: usize) -> Vec<(usize, usize)> {
     let mut all = Vec::new();
     let mut size = length;
-    while size > 0 {
+    let smallest = if length > LONG { length / 8 } else { 1 };
+    while size >= smallest {
         all.extend((0..length).step_by(size).map(|from| (from, (from + size).min(length))));
         size /= 2;
     }
@@ -264,7 +268,8 @@ impl Smaller for Hex {
         let bytes = &self.0;
         let mut all = without_parts(bytes);
         all.extend(zeroed_parts(bytes));
-        for at in 0..bytes.len() {
+        let single = if bytes.len() > LONG { 0 } else { bytes.len() };
+        for at in 0..single {
             for byte in bytes[at].smaller() {
                 let mut changed = bytes.clone();
                 changed[at] = byte;
@@ -394,9 +399,11 @@ macro_rules! call {
 fn smallest<C: Case>(failing: &C) -> C {
     let mut case = failing.clone();
     let mut tries = 50_000;
+    // A try of a file of 65,000 bytes takes as long as a thousand others.
+    let end = Instant::now() + Duration::from_secs(20);
     'smaller: loop {
         for candidate in case.smaller() {
-            if tries == 0 {
+            if tries == 0 || Instant::now() > end {
                 return case;
             }
             tries -= 1;

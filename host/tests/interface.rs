@@ -41,7 +41,7 @@ pub struct Fed {
     pub taken: usize,
 }
 
-/// Words read; with refusal 17 the count is the first wrong word's index.
+/// Words read, the records of a log or the rows listed; with refusal 17 the count is the first wrong word's index.
 #[repr(C)]
 #[derive(Clone, Copy, Debug, Default, PartialEq, Eq)]
 pub struct Words {
@@ -137,4 +137,8 @@ pub trait Interface {
     fn board_list(&self, table: &[Entry], entries: &mut [Entry]) -> Listed;
     fn board_reply(&self, table: &mut [Entry], address: u8, request: u8, refusal: u8, lease: u32) -> u8;
     fn board_acknowledged(&self, table: &mut [Entry], address: u8, code: u16, lease: u32) -> u8;
+    fn log_empty(&self, file: &mut [u8]) -> Written;
+    fn log_append(&self, file: &mut [u8], length: usize, kind: u8, body: &[u8]) -> Written;
+    fn log_check(&self, file: &[u8]) -> Words;
+    fn log_list(&self, file: &[u8], skip: usize, rows: &mut [u16]) -> Words;
 }

@@ -47,6 +47,10 @@ extern "C" {
     fn mfc_board_list(table: *const Entry, places: usize, entries: *mut Entry, room: usize) -> Listed;
     fn mfc_board_reply(table: *mut Entry, places: usize, address: u8, request: u8, refusal: u8, lease: u32) -> u8;
     fn mfc_board_acknowledged(table: *mut Entry, places: usize, address: u8, code: u16, lease: u32) -> u8;
+    fn mfc_log_empty(file: *mut u8, room: usize) -> Written;
+    fn mfc_log_append(file: *mut u8, room: usize, length: usize, kind: u8, body: *const u8, n: usize) -> Written;
+    fn mfc_log_check(file: *const u8, length: usize) -> Words;
+    fn mfc_log_list(file: *const u8, length: usize, skip: usize, rows: *mut u16, room: usize) -> Words;
 }
 
 /// The library; an empty slice goes over as NULL where that is asked for, else as a pointer that must not be followed.
@@ -186,5 +190,21 @@ impl Interface for Library {
 
     fn board_acknowledged(&self, table: &mut [Entry], address: u8, code: u16, lease: u32) -> u8 {
         unsafe { mfc_board_acknowledged(self.write(table), table.len(), address, code, lease) }
+    }
+
+    fn log_empty(&self, file: &mut [u8]) -> Written {
+        unsafe { mfc_log_empty(self.write(file), file.len()) }
+    }
+
+    fn log_append(&self, file: &mut [u8], length: usize, kind: u8, body: &[u8]) -> Written {
+        unsafe { mfc_log_append(self.write(file), file.len(), length, kind, self.read(body), body.len()) }
+    }
+
+    fn log_check(&self, file: &[u8]) -> Words {
+        unsafe { mfc_log_check(self.read(file), file.len()) }
+    }
+
+    fn log_list(&self, file: &[u8], skip: usize, rows: &mut [u16]) -> Words {
+        unsafe { mfc_log_list(self.read(file), file.len(), skip, self.write(rows), rows.len()) }
     }
 }

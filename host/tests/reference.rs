@@ -6,6 +6,7 @@
 
 use crate::board;
 use crate::interface::*;
+use crate::log;
 
 /// The number of the first condition that holds, 0 where none does.
 fn first(conditions: &[(u8, bool)]) -> u8 {
@@ -850,5 +851,21 @@ impl Interface for Reference {
 
     fn board_acknowledged(&self, table: &mut [Entry], address: u8, code: u16, lease: u32) -> u8 {
         board::acknowledged(table, address, code, lease)
+    }
+
+    fn log_empty(&self, file: &mut [u8]) -> Written {
+        log::empty(file)
+    }
+
+    fn log_append(&self, file: &mut [u8], length: usize, kind: u8, body: &[u8]) -> Written {
+        log::append(file, length, kind, body)
+    }
+
+    fn log_check(&self, file: &[u8]) -> Words {
+        log::check(file)
+    }
+
+    fn log_list(&self, file: &[u8], skip: usize, rows: &mut [u16]) -> Words {
+        log::list(file, skip, rows)
     }
 }

@@ -28,7 +28,7 @@ fn events(text: &str) -> Vec<Event> {
     all
 }
 
-fn hex(text: &str) -> Vec<u8> {
+pub fn hex(text: &str) -> Vec<u8> {
     let byte = |event| match event {
         Event::Byte(byte) => byte,
         Event::Mark => panic!("no mark in bytes: {text}"),
