@@ -299,11 +299,86 @@ static void board_full(void)
     }
 }
 
+/* ---- The shift log, by 02 (v) */
+
+static uint8_t file[MFC_LOG_ROOM + 8], body[MFC_LOG_ROOM];
+
+/* What a record of so many bytes is answered on the empty log, in so much room. */
+static mfc_written added(unsigned kind, size_t n, size_t room)
+{
+    return mfc_log_append(file, room, mfc_log_empty(file, room).length, (uint8_t)kind, body, n);
+}
+
+/* A body that takes all of 65,000 bytes, 3 of them its trailer, needs all the room; with one byte more it is no log's. */
+static void log_room(void)
+{
+    const size_t longest = 65000 - 3;
+    expect(MFC_LOG_ROOM == 65008, "room for any log", MFC_LOG_ROOM);
+    for (size_t room = MFC_LOG_ROOM - 8; room <= sizeof file; room++) {
+        mfc_written written = added(MFC_LOG_REPLY, longest, room);
+        expect(written.refusal == (room < MFC_LOG_ROOM ? MFC_REFUSAL_NO_ROOM : 0), "so much room for the longest log", room);
+        expect(written.length == (room < MFC_LOG_ROOM ? 0 : MFC_LOG_ROOM), "the length of the longest log", room);
+        expect(added(MFC_LOG_REPLY, longest + 1, room).refusal == MFC_REFUSAL_OUT_OF_RANGE, "a longer log", room);
+    }
+}
+
+/* Every number as a kind, without a body and with one. */
+static void log_kinds(void)
+{
+    for (unsigned kind = 0; kind < 256; kind++) {
+        int bytes = kind == MFC_LOG_REQUEST || kind == MFC_LOG_REPLY, known = bytes || kind == MFC_LOG_SILENCE;
+        expect(added(kind, 0, sizeof file).refusal == (known ? 0 : MFC_REFUSAL_BAD_KIND), "a kind of record", kind);
+        expect(added(kind, 1, sizeof file).refusal == (bytes ? 0 : MFC_REFUSAL_BAD_KIND), "a kind with a body", kind);
+    }
+    expect(MFC_LOG_REQUEST == 1, "request-side bytes", MFC_LOG_REQUEST);
+    expect(MFC_LOG_REPLY == 2, "reply-side bytes", MFC_LOG_REPLY);
+    expect(MFC_LOG_SILENCE == 3, "a silence mark", MFC_LOG_SILENCE);
+}
+
+/* 02's example, then a mark: the list has MFC_LOG_ROW numbers a row, and no part of a row. */
+static void log_row(void)
+{
+    static const uint8_t frame[] = {0x7E, 0x00, 0x45, 0x00, 0xBA, 0x7E};
+    static const uint8_t example[] = {0x7E, 0x00, 0x45, 0x00, 0xBA, 0x7E, 0x01, 0x00, 0x06,
+                                      0x00, 0x00, 0x00, 0x01, 0x00, 0x00, 0x00, 0x09};
+    static const uint16_t expected[2 * MFC_LOG_ROW] = {MFC_LOG_SILENCE, 9, 0, MFC_LOG_REQUEST, 0, 6};
+    uint16_t rows[3 * MFC_LOG_ROW];
+    expect(MFC_LOG_ROW == 3, "the numbers of a row", MFC_LOG_ROW);
+    size_t length = mfc_log_empty(file, sizeof file).length;
+    length = mfc_log_append(file, sizeof file, length, MFC_LOG_REQUEST, frame, sizeof frame).length;
+    expect(length == sizeof example && memcmp(file, example, sizeof example) == 0, "02's example", length);
+    length = mfc_log_append(file, sizeof file, length, MFC_LOG_SILENCE, NULL, 0).length;
+    for (size_t room = 0; room <= 3 * MFC_LOG_ROW; room++) {
+        size_t fit = room / MFC_LOG_ROW < 2 ? room / MFC_LOG_ROW : 2;
+        mfc_words listed = mfc_log_list(file, length, 0, rows, room);
+        expect(listed.refusal == (fit == 0 ? MFC_REFUSAL_NO_ROOM : 0), "so many numbers for a list", room);
+        expect(listed.count == fit, "the rows in so many numbers", room);
+        expect(memcmp(rows, expected, fit * MFC_LOG_ROW * sizeof rows[0]) == 0, "the list in so many numbers", room);
+    }
+}
+
+/* The refusals of a log: a file for each that 02 refuses so. */
+static void log_refusals(void)
+{
+    static const uint8_t cut[] = {0x01, 0, 0, 0, 0, 0, 0, 0, 1}, unknown[] = {0x04, 0, 0, 0, 0, 0, 1, 0, 0, 0, 3},
+                         counted[] = {0, 0, 0, 1, 0, 0, 0, 0}, good[] = {0, 0, 0, 0, 0, 0, 0, 0};
+    expect(MFC_REFUSAL_BAD_TOTAL == 20, "the refusal of a total", MFC_REFUSAL_BAD_TOTAL);
+    expect(MFC_REFUSAL_BAD_TRAILER == 21, "the refusal of a trailer", MFC_REFUSAL_BAD_TRAILER);
+    expect(MFC_REFUSAL_BAD_KIND == 22, "the refusal of a kind", MFC_REFUSAL_BAD_KIND);
+    expect(MFC_REFUSAL_WRONG_COUNT == 23, "the refusal of a count", MFC_REFUSAL_WRONG_COUNT);
+    expect(mfc_log_check(good, 7).refusal == MFC_REFUSAL_BAD_TOTAL, "seven bytes", 20);
+    expect(mfc_log_check(cut, sizeof cut).refusal == MFC_REFUSAL_BAD_TRAILER, "one byte of a trailer", 21);
+    expect(mfc_log_check(unknown, sizeof unknown).refusal == MFC_REFUSAL_BAD_KIND, "kind 4", 22);
+    expect(mfc_log_check(counted, sizeof counted).refusal == MFC_REFUSAL_WRONG_COUNT, "no record, and one counted", 23);
+    expect(mfc_log_check(good, sizeof good).refusal == 0, "the empty log", 0);
+}
+
 int main(int argc, char **argv)
 {
     static void (*const sections[])(void) = {
-        record_size, frame_room,   request_room,  reply_room,  requests_and_replies, kinds, refusals, start_values,
-        i2c_codes,   board_places, board_numbers, board_names, board_full,
+        record_size, frame_room,   request_room,  reply_room,  requests_and_replies, kinds,    refusals,  start_values,
+        i2c_codes,   board_places, board_numbers, board_names, board_full,           log_room, log_kinds, log_row,
+        log_refusals,
     };
     const int count = sizeof sections / sizeof sections[0];
     if (argc != 2) {

@@ -49,6 +49,10 @@ mfc_listed mfc_board_list(const mfc_entry *table, size_t places, mfc_entry *entr
 uint8_t mfc_board_reply(mfc_entry *table, size_t places, uint8_t address, uint8_t request, uint8_t refusal,
                         uint32_t lease);
 uint8_t mfc_board_acknowledged(mfc_entry *table, size_t places, uint8_t address, uint16_t code, uint32_t lease);
+mfc_written mfc_log_empty(uint8_t *file, size_t room);
+mfc_written mfc_log_append(uint8_t *file, size_t room, size_t length, uint8_t kind, const uint8_t *body, size_t n);
+mfc_words mfc_log_check(const uint8_t *file, size_t length);
+mfc_words mfc_log_list(const uint8_t *file, size_t length, size_t skip, uint16_t *rows, size_t room);
 
 _Static_assert(offsetof(mfc_reply, value) == 4, "four bytes stand before the value");
 _Static_assert(offsetof(mfc_register, value) == 2, "the register's value follows the refusal");
@@ -506,6 +510,143 @@ static void board(void)
     }
 }
 
+/* ---- The shift log: short files, each lent with exactly its length or its room */
+
+enum { CLOSING = 8, LOG_BYTES = 1500, LOG_BODY = 300, LOG_RECORDS = 14 };
+
+/* A buffer that is kept from call to call, and the length of the log at its start. */
+struct kept_log {
+    uint8_t bytes[LOG_BYTES];
+    size_t length;
+};
+
+/* What a writer did to the buffer comes back; what is behind the log, and all of it after a refusal, is as it was. */
+static void written_back(struct kept_log *log, struct lent lent, mfc_written written)
+{
+    size_t laid = written.refusal == 0 ? written.length : 0;
+    if (laid > lent.length) {
+        fail("more than was lent");
+    }
+    if (lent.length > laid && memcmp(lent.bytes + laid, log->bytes + laid, lent.length - laid) != 0) {
+        fail("bytes behind the log were changed");
+    }
+    if (written.refusal == 0) {
+        memcpy(log->bytes, lent.bytes, lent.length);
+        log->length = written.length;
+    }
+    fold(written.refusal);
+    fold(written.length);
+    take_back(lent);
+}
+
+static void log_empty(struct kept_log *log, size_t room)
+{
+    begin("mfc_log_empty");
+    struct lent lent = lend(0, log->bytes, room);
+    written_back(log, lent, mfc_log_empty(lent.bytes, room));
+}
+
+/* A record of any kind, mostly one that is taken. */
+static void log_append(struct kept_log *log, size_t room, size_t length)
+{
+    uint8_t contents[LOG_BODY];
+    uint8_t kind = (uint8_t)(below(16) ? 1 + below(3) : any());
+    size_t n = kind == MFC_LOG_SILENCE && below(8) ? 0 : below(8) ? below(12) : below(sizeof contents);
+    wire_bytes(contents, n);
+    begin("mfc_log_append");
+    struct lent lent = lend(0, log->bytes, room);
+    struct lent body = lend(1, contents, n);
+    mfc_written written = mfc_log_append(lent.bytes, room, length, kind, body.bytes, n);
+    if (n > 0 && memcmp(body.bytes, contents, n) != 0) {
+        fail("a record's body was changed");
+    }
+    written_back(log, lent, written);
+    take_back(body);
+}
+
+static void log_check(const uint8_t *file, size_t length)
+{
+    begin("mfc_log_check");
+    struct lent lent = lend(0, file, length);
+    mfc_words counted = mfc_log_check(lent.bytes, length);
+    if (length > 0 && memcmp(lent.bytes, file, length) != 0) {
+        fail("a check changed the file");
+    }
+    fold(counted.refusal);
+    fold(counted.count);
+    take_back(lent);
+}
+
+static void log_list(const uint8_t *file, size_t length, size_t skip, size_t room)
+{
+    begin("mfc_log_list");
+    struct lent lent = lend(0, file, length);
+    struct lent rows = lend(1, NULL, room * sizeof(uint16_t));
+    uint16_t *numbers = (uint16_t *)(void *)rows.bytes;
+    mfc_words listed = mfc_log_list(lent.bytes, length, skip, numbers, room);
+    if (listed.count * MFC_LOG_ROW > room) {
+        fail("more than was lent");
+    }
+    for (size_t at = 0; at < listed.count * MFC_LOG_ROW; at += MFC_LOG_ROW) {
+        if ((size_t)numbers[at + 1] + numbers[at + 2] > length) {
+            fail("a body that is not in the file");
+        }
+    }
+    if (length > 0 && memcmp(lent.bytes, file, length) != 0) {
+        fail("a list changed the file");
+    }
+    size_t used = listed.count * MFC_LOG_ROW * sizeof(uint16_t);
+    if (room > 0 && memcmp(rows.bytes + used, pattern + used, rows.length - used) != 0) {
+        fail("a list changed room past its rows");
+    }
+    fold(listed.refusal);
+    fold(listed.count);
+    take_back(lent);
+    take_back(rows);
+}
+
+static void read_log(const struct kept_log *log)
+{
+    log_check(log->bytes, log->length);
+    log_list(log->bytes, log->length, 0, (LOG_RECORDS + 1) * MFC_LOG_ROW);
+    log_list(log->bytes, log->length, below(LOG_RECORDS + 1), below(12));
+}
+
+/* No file at all; records from the empty log on, with short room and other lengths between them; then bytes changed,
+ * more and fewer. */
+static void shift_log(void)
+{
+    struct kept_log log = {.length = 0};
+    wire_bytes(log.bytes, sizeof log.bytes);
+    log_append(&log, 0, 0);
+    log_check(log.bytes, 0);
+    log_list(log.bytes, 0, 0, below(2) * MFC_LOG_ROW);
+    log_empty(&log, below(CLOSING));
+    log_empty(&log, CLOSING + below(CLOSING));
+    for (int records = 0; records < LOG_RECORDS; records++) {
+        log_append(&log, sizeof log.bytes, log.length);
+        if (below(3) == 0) {
+            size_t room = log.length + below(24);
+            log_append(&log, room < sizeof log.bytes ? room : sizeof log.bytes, log.length);
+            log_append(&log, below(log.length), log.length);
+            log_append(&log, log.length, below(log.length));
+            log_append(&log, log.length, any());
+            read_log(&log);
+        }
+    }
+    read_log(&log);
+    for (int spoilt = 0; spoilt < 6; spoilt++) {
+        struct kept_log other = log;
+        if (below(3) == 0) {
+            other.length = below(sizeof log.bytes + 1);
+        } else {
+            other.bytes[below(log.length)] = (uint8_t)(below(2) ? below(5) : any());
+        }
+        read_log(&other);
+        log_append(&other, sizeof log.bytes, other.length);
+    }
+}
+
 /* ---- One round: all functions, the writers' frames going through the receiver into the readers */
 
 static void writers(uint8_t *frame, size_t *length)
@@ -593,9 +734,12 @@ static void one_round(void)
     words(below(64), below(64), 0);
     i2c_commands();
     numbers();
-    /* It makes more calls than all the rest, so not every round has it. */
+    /* These two make more calls than all the rest, so not every round has them. */
     if (below(4) == 0) {
         board();
+    }
+    if (below(8) == 0) {
+        shift_log();
     }
 }
 
