@@ -10,6 +10,7 @@
 #define _POSIX_C_SOURCE 200809L
 #include "bench.h"
 #include "bench_board.h"
+#include "bench_log.h"
 #include "mfc.h"
 #include "plain.h"
 #include "stack.h"
@@ -401,6 +402,7 @@ static void compare_all(void)
     compare_words(0xFF, sfc6_words);
     compare_words(0x00, liquid_words);
     compare_boards();
+    compare_logs();
 }
 
 /* ---- the clock ---- */
@@ -509,6 +511,7 @@ static void measure_all(void)
     measure("read three words, C with a table", "call", ROW, words_library, words_plain);
     measure("read three words, C without a table", "call", ROW, words_library, words_folded);
     measure_boards();
+    measure_logs();
 }
 
 /* ---- the stack ---- */
@@ -636,6 +639,8 @@ static void print_stacks(void)
         { "mfc_scaled_float", use_scaled_float }, { "mfc_board_open", use_board_open }, { "mfc_board_close", use_board_close },
         { "mfc_board_restart", use_board_restart }, { "mfc_board_poll", use_board_poll }, { "mfc_board_list", use_board_list },
         { "mfc_board_reply", use_board_reply }, { "mfc_board_acknowledged", use_board_acknowledged },
+        { "mfc_log_empty", use_log_empty }, { "mfc_log_append", use_log_append }, { "mfc_log_check", use_log_check },
+        { "mfc_log_list", use_log_list },
     };
 
     lay_bodies();
@@ -663,6 +668,7 @@ int main(int argc, char **argv)
     good_words(0x00, liquid_words, 3);
     good_words(0xFF, row_of_words, 3 * ROW);
     lay_boards();
+    lay_logs();
     for (size_t i = 0; i < sizeof letters; i++)
         letters[i] = (uint8_t)('A' + i % 26);
     for (size_t i = 0; i < sizeof specials; i++)

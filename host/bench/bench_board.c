@@ -3,6 +3,7 @@
 #include "bench.h"
 #include "mfc.h"
 #include "plain_board.h"
+#include "traffic.h"
 
 #include <string.h>
 
@@ -16,17 +17,6 @@ static board full[ROW], half[ROW];
 static mfc_entry absent[ROW];
 
 /* ---- boards ---- */
-
-/* A number below n. Its low bits have no short period either: the processor would learn to predict the jumps that depend on them. */
-static uint32_t any(uint32_t n)
-{
-    static uint64_t state = 1;
-
-    state ^= state >> 12;
-    state ^= state << 25;
-    state ^= state >> 27;
-    return (uint32_t)(state * 0x2545F4914F6CDD1Du >> 32) % n;
-}
 
 static uint16_t any_lease(void)
 {

@@ -111,6 +111,16 @@ size_t damaged_traffic(uint8_t *out, size_t room)
     return n;
 }
 
+uint32_t any(uint32_t n)
+{
+    static uint64_t any_state = 1;
+
+    any_state ^= any_state >> 12;
+    any_state ^= any_state << 25;
+    any_state ^= any_state >> 27;
+    return (uint32_t)(any_state * 0x2545F4914F6CDD1Du >> 32) % n;
+}
+
 void random_bytes(uint8_t *out, size_t n)
 {
     for (size_t i = 0; i < n; i++)

@@ -31,6 +31,10 @@ size_t escape_traffic(uint8_t *out, size_t room);
 /* Polling traffic with a damaged byte every so often, so that every refusal of the receiver arises. */
 size_t damaged_traffic(uint8_t *out, size_t room);
 
+/* A random number below n. Its low bits have no short period either: the processor would learn to predict the jumps that depend on
+   them. */
+uint32_t any(uint32_t n);
+
 /* Random bytes, and words of 3 bytes with good CRCs. */
 void random_bytes(uint8_t *out, size_t n);
 void good_words(uint8_t start, uint8_t *out, size_t words);
