@@ -52,6 +52,18 @@ fn four_at(file: &[u8], place: usize) -> usize
     }
 }
 
+// The body length that a trailer says. Few bodies are over 255 bytes: for the others the high byte is only looked at, so that the place of
+// the next record does not wait for it.
+fn size_at(file: &[u8], place: usize) -> usize
+    requires { ⌜ place + 2 ≤ length (now file) ⌝ }
+    ensures { λ r. ⌜ r ≡ big (take 2 (drop place (now (file .entry)))) ⌝ }
+{
+    if file[place] == 0 {
+        return file[place + 1] as usize;
+    }
+    two_at(file, place)
+}
+
 // Whether there is such a kind, with a body of that length.
 pub(crate) fn is_known(kind: u8, size: usize) -> bool
     ensures { λ r. ⌜ r ≡ kinds kind size ⌝ }
@@ -76,7 +88,7 @@ pub(crate) fn ending_at(file: &[u8], place: usize) -> Ending
     if place < 3 {
         return Ending::Refused(Refusal::BadTrailer);
     }
-    let size = two_at(file, place - 2);
+    let size = size_at(file, place - 2);
     if place - 3 < size {
         return Ending::Refused(Refusal::BadTrailer);
     }
