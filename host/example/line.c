@@ -1,6 +1,8 @@
 #define _DEFAULT_SOURCE /* CRTSCTS, TIOCEXCL and the rates over 38,400 */
 #include "line.h"
 
+#include "log.h"
+
 #include <errno.h>
 #include <fcntl.h>
 #include <poll.h>
@@ -158,6 +160,7 @@ static enum heard hear(struct line *line, int64_t until)
             line->start = 0;
             line->end = (size_t)n;
             line->heard += line->end;
+            log_record(MFC_LOG_REPLY, line->bytes, line->end);
             return BYTES;
         }
         if (n == 0)
@@ -167,24 +170,40 @@ static enum heard hear(struct line *line, int64_t until)
     }
 }
 
-static int send_all(struct line *line, const uint8_t *bytes, size_t n)
+/* Returns how many of the bytes the line took: all of them, unless it is gone. */
+static size_t put(struct line *line, const uint8_t *bytes, size_t n)
 {
     int64_t until = now_ms() + (int64_t)line->timeout_ms * LONGEST;
+    size_t done = 0;
 
-    while (n > 0) {
+    while (done < n) {
         ssize_t sent;
 
         if (wait_for(line->fd, POLLOUT, until) != BYTES)
-            return 0;
-        sent = write(line->fd, bytes, n);
-        if (sent > 0) {
-            bytes += sent;
-            n -= (size_t)sent;
-        } else if (sent < 0 && errno != EINTR && errno != EAGAIN) {
-            return 0;
-        }
+            return done;
+        sent = write(line->fd, bytes + done, n - done);
+        if (sent > 0)
+            done += (size_t)sent;
+        else if (sent < 0 && errno != EINTR && errno != EAGAIN)
+            return done;
     }
-    return 1;
+    return done;
+}
+
+static int send_all(struct line *line, const uint8_t *bytes, size_t n)
+{
+    size_t sent = put(line, bytes, n);
+
+    if (sent > 0)
+        log_record(MFC_LOG_REQUEST, bytes, sent);
+    return sent == n;
+}
+
+/* Tells the receiver of silence. */
+static uint8_t mark(struct line *line)
+{
+    log_record(MFC_LOG_SILENCE, NULL, 0);
+    return mfc_silence(line->record, sizeof line->record);
 }
 
 /* Before a question: what is here now answers no open question, so it is thrown away, and where there was any the line must
@@ -207,7 +226,7 @@ static int settle(struct line *line)
     } while (now_ms() < limit);
     line->start = line->end = 0;
     line->restless = 0;
-    (void)mfc_silence(line->record, sizeof line->record);
+    (void)mark(line);
     return 1;
 }
 
@@ -245,7 +264,7 @@ static enum heard next_item(struct line *line, int64_t limit, mfc_fed *fed)
         if (!line->restless)
             heard = hear(line, silent_at(line));
         if (heard == QUIET)
-            fed->refusal = mfc_silence(line->record, sizeof line->record);
+            fed->refusal = mark(line);
         if (heard != BYTES)
             return heard;
     }

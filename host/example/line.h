@@ -1,4 +1,5 @@
-/* line.h: a serial line with one master (this program), and one question at a time on it. */
+/* line.h: a serial line with one master (this program), and one question at a time on it. What crosses it goes to the log (log.h), where
+   one is kept: each piece as it was sent or heard, and each silence mark. */
 #ifndef LINE_H
 #define LINE_H
 

@@ -46,6 +46,7 @@ static const char help[] =
     "  --delay MS      what late means (1 to 10000, default 300)\n"
     "  --seed N        other random numbers (default 1)\n"
     "  --seconds N     stop after N seconds (1 to 86400, default none)\n"
+    "  --wire FILE     write down what crosses the line, a line for each piece: 1 and the bytes heard, or 2 and the bytes sent\n"
     "  --truth         print what a supervisory program should print for each controller and sensor, and stop\n"
     "  --help          print this\n";
 
@@ -76,6 +77,8 @@ struct rack {
     struct damage damage;
     int damage_requests, echo;
     long delay_ms, seconds;
+    const char *wire_name;       /* of the file that tells what crosses the line, or NULL */
+    FILE *wire;
     int master, slave;           /* the slave is held open, so that the line lives on between two masters */
     uint8_t record[MFC_RECORD_SIZE], frame[MFC_FRAME_ROOM];
     struct waiting waiting[WAITING];
@@ -167,6 +170,17 @@ static struct said execute(struct controller *c, uint8_t request, uint32_t value
 
 /* ---- the line ---- */
 
+/* Writes down bytes that crossed the line. */
+static void note(struct rack *rack, char side, const uint8_t *bytes, size_t n)
+{
+    if (rack->wire == NULL)
+        return;
+    (void)fputc(side, rack->wire);
+    for (size_t i = 0; i < n; i++)
+        (void)fprintf(rack->wire, " %02X", bytes[i]);
+    (void)fputc('\n', rack->wire);
+}
+
 /* Keeps bytes to be sent ahead of the next. */
 static void put_ahead(struct rack *rack, const uint8_t *bytes, size_t n)
 {
@@ -185,6 +199,8 @@ static void put_now(struct rack *rack, const uint8_t *bytes, size_t n)
     do
         sent = write(rack->master, rack->ahead, rack->ahead_n);
     while (sent < 0 && errno == EINTR);
+    if (sent > 0)
+        note(rack, '2', rack->ahead, (size_t)sent);
     rack->ahead_n = 0;
 }
 
@@ -404,6 +420,7 @@ static void hear(struct rack *rack)
 
     if (n <= 0)
         return;
+    note(rack, '1', bytes, (size_t)n);
     if (rack->echo)
         put_ahead(rack, bytes, (size_t)n);
     if (rack->damage_requests)
@@ -530,6 +547,9 @@ static int read_options(struct rack *rack, int argc, char **argv)
             good = read_number(argv[++i], 1, 10000, &rack->delay_ms);
         } else if (strcmp(option, "--seconds") == 0) {
             good = read_number(argv[++i], 1, 86400, &rack->seconds);
+        } else if (strcmp(option, "--wire") == 0) {
+            rack->wire_name = argv[++i];
+            good = rack->wire_name != NULL;
         } else if (strcmp(option, "--seed") == 0) {
             good = read_number(argv[++i], 0, 2000000000, &seed);
             rack->damage.state = good ? (uint64_t)seed : 0;
@@ -572,10 +592,18 @@ int main(int argc, char **argv)
         return 2;
     power_up(&rack);
     stop_on_signals();
+    if (rack.wire_name != NULL && (rack.wire = fopen(rack.wire_name, "w")) == NULL) {
+        (void)fault(rack.wire_name);
+        return 3;
+    }
     if (mfc_receiver_fresh(MFC_KIND_REQUEST, rack.record, sizeof rack.record) != 0 || !open_terminal(&rack))
         return 3;
     run(&rack);
     (void)printf("requests %lu, unheard %lu, answers %lu, damaged %lu\n",
                  rack.requests, rack.unheard, rack.answers, rack.damaged);
+    if (rack.wire != NULL && (ferror(rack.wire) || fclose(rack.wire) != 0)) {
+        (void)fault(rack.wire_name);
+        return 3;
+    }
     return 0;
 }

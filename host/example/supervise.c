@@ -1,5 +1,5 @@
 /* supervise: polls a rack of mass flow controllers, and the sensors of an I2C bus beside it, and prints one line for each; takes
- * orders from a console, and shows the handover board after each round.
+ * orders from a console, and shows the handover board after each round. What crosses the serial line it keeps in a log.
  *
  * It uses no heap: all it holds is static, and stdout gets a buffer of its own. */
 #define _POSIX_C_SOURCE 200809L
@@ -7,6 +7,7 @@
 #include "board.h"
 #include "handover.h"
 #include "line.h"
+#include "log.h"
 #include "orders.h"
 #include "sensors.h"
 
@@ -21,11 +22,12 @@
 #define FIELD 1                  /* the calibration field of its liquid sensor */
 #define LINES_AT_ONCE 40         /* of the console: more of them wait for the next round, so that the rack is polled */
 
-/* The exit status says what to look at. */
+/* The exit status says what to look at. A log that cannot be begun is NO_LINE, before anything is polled; one that is not all on disk in
+   the end is SOME_REFUSED, and one that was saved late is no fault. */
 enum { ALL_WELL = 0, SOME_REFUSED = 1, USAGE = 2, NO_LINE = 3 };
 
 static const char help[] =
-    "usage: supervise [--rounds N] [--every S] [--timeout MS] [--board RATE] [--console] [--show] DEVICE\n"
+    "usage: supervise [--rounds N] [--every S] [--timeout MS] [--board RATE] [--console] [--log FILE] [--show] DEVICE\n"
     "Polls the controllers 0 to 23 on a serial line (115,200 baud, 8N1) for measured value and calibration. Shows the handover board\n"
     "after each round: what this program forced shut or loaded until a restart, and the polls (rounds) until it is due.\n"
     "  --rounds N    poll the rack N times (1 to 1000000, default 1)\n"
@@ -34,9 +36,12 @@ static const char help[] =
     "  --board RATE  poll the two sensors of a simulated I2C board too; a bit of a byte read flips at this RATE, a chance such as\n"
     "                0.01, 1/100 for exactly every 100th, or 0 for none\n"
     "  --console     take orders from standard input, before each round and between rounds\n"
+    "  --log FILE    keep what crosses the serial line in FILE, then FILE.1, FILE.2 and so on; a log that is there is gone on with. It is\n"
+    "                saved after each round, and a power cut loses what came since. FILE.new is written on the way\n"
     "  --show        print the body of each answer, with its checksum\n"
     "  --help        print this\n"
-    "Exit status: 0 all answered, 1 some refused, silent, not done or not on the board, 2 wrong usage, 3 no line or bus, or line lost.\n";
+    "Exit status: 0 all answered, 1 some refused, silent, not done, not on the board or not in the log, 2 wrong usage, 3 no line, bus or\n"
+    "log to begin with, or line lost.\n";
 
 struct options {
     long rounds;
@@ -44,6 +49,7 @@ struct options {
     long timeout_ms;
     int board, console, show;
     struct rate flip;            /* of the board's bus */
+    const char *log;             /* NULL for none */
     const char *device;
 };
 
@@ -97,6 +103,10 @@ static int read_options(int argc, char **argv, struct options *options)
                 return wrong_usage("takes a rate such as 0.01 or 1/100", "--board");
         } else if (strcmp(argv[i], "--console") == 0) {
             options->console = 1;
+        } else if (strcmp(argv[i], "--log") == 0) {
+            options->log = argv[++i];
+            if (options->log == NULL || options->log[0] == '\0' || options->log[0] == '-')
+                return wrong_usage("takes the name of a file", "--log");
         } else if (strcmp(argv[i], "--show") == 0) {
             options->show = 1;
         } else if (argv[i][0] == '-') {
@@ -181,6 +191,7 @@ static int await_round(struct plant *plant, int64_t next, unsigned long *undone)
 
         if (!take_orders(plant, undone))
             return 0;
+        log_save();
         left = next - now_ms();
         if (left <= 0 || stop)
             return 1;
@@ -214,6 +225,7 @@ static int poll_rounds(struct plant *plant, const struct options *options, struc
             console_round();
         }
         handover_print();
+        log_save();
     }
     return there;
 }
@@ -234,18 +246,24 @@ static void stop_on_signals(void)
 static int open_plant(struct plant *plant, const struct options *options)
 {
     const char *what = "--console", *fault = options->console ? console_start() : NULL;
+    int open = 0;
 
     if (fault == NULL) {
         what = options->device;
         fault = line_open(&plant->line, options->device, (int)options->timeout_ms);
+        open = fault == NULL;
+    }
+    if (fault == NULL && options->log != NULL) {
+        what = "--log";
+        fault = log_open(options->log);
     }
     if (fault == NULL && options->board) {
         what = "the I2C bus";
         board_damage(options->flip);
         fault = sensors_start(CONCENTRATION, FIELD);
-        if (fault != NULL)
-            line_close(&plant->line);
     }
+    if (fault != NULL && open)
+        line_close(&plant->line);
     plant->bus = options->board;
     plant->show = options->show;
     if (fault != NULL)
@@ -267,14 +285,14 @@ static void print_results(const struct plant *plant, const struct results *resul
 static int all_well(const struct results *results)
 {
     return results->line.answered == results->line.polls && results->bus.answered == results->bus.polls
-        && results->undone == 0 && console_misunderstood() == 0 && handover_is_whole();
+        && results->undone == 0 && console_misunderstood() == 0 && handover_is_whole() && log_is_whole();
 }
 
 int main(int argc, char **argv)
 {
     static struct plant plant;
     static char out[4096];
-    struct options options = { 1, 0, 200, 0, 0, 0, { 0, 0, 0 }, NULL };
+    struct options options = { 1, 0, 200, 0, 0, 0, { 0, 0, 0 }, NULL, NULL };
     struct results results = { { 0, 0, 0, 0 }, { 0, 0, 0, 0 }, 0, 0 };
     int there;
 
@@ -292,6 +310,7 @@ int main(int argc, char **argv)
     results.damaged = board_damaged();
     there = poll_rounds(&plant, &options, &results);
     handover_end();
+    log_end();
     if (there)
         print_results(&plant, &results);
     (void)fflush(stdout);

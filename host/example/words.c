@@ -14,6 +14,7 @@ struct word {
 
 #define CABLE "check the cable, its 120 ohm terminations and the earth, then poll again"
 #define PROGRAM "a fault of this program: report it"
+#define MOVE "move it away, or give another FILE"
 
 static const struct word refusals[] = {
     { MFC_REFUSAL_NO_ROOM, "lent room too small, or a table not of 32 places", PROGRAM },
@@ -36,6 +37,10 @@ static const struct word refusals[] = {
     { MFC_REFUSAL_BAD_SCALE, "scale out of its range", PROGRAM },
     { MFC_REFUSAL_BOARD_FULL, "all 32 places of the board are held",
       "write it down by hand, close another entry, then give the order again" },
+    { MFC_REFUSAL_BAD_TOTAL, "the file's length is not what its end says, or too long for a log", MOVE },
+    { MFC_REFUSAL_BAD_TRAILER, "a record would begin before the file does", MOVE },
+    { MFC_REFUSAL_BAD_KIND, "a record of no known kind, or a silence mark with bytes", MOVE },
+    { MFC_REFUSAL_WRONG_COUNT, "the file's end has another number of records", MOVE },
 };
 
 static const struct word codes[] = {
