@@ -21,8 +21,9 @@ module _ (file : List ℕ) (place width : ℕ) (there : place + width ≤ length
   number-not e = absurd (refused-not-served (e ∙ taken))
 
 -- a number of two bytes with nothing in the first
-pub low-byte : (file : List ℕ) (place : ℕ) → place + 2 ≤ length file → getD file place 0 ≡ 0 → getD file (place + 1) 0 ≡ big (take 2 (drop place file))
-low-byte file place there none =
+pub low-byte : (file : List ℕ) (place next : ℕ) → next ≡ place + 1 → place + 2 ≤ length file → getD file place 0 ≡ 0
+    → getD file next 0 ≡ big (take 2 (drop place file))
+low-byte file place next e there none =
     let high : big (take 1 (drop place file)) ≡ 0 = big-one file place (omega arith) ∙ none in
     let low : big (take 1 (drop (place + 1) file)) ≡ getD file (place + 1) 0 = big-one file (place + 1) (omega arith) in
-    sym (big-split file place 1 1 there ∙ rw (high, low) (omega arith))
+    ap (λ (n : ℕ). getD file n 0) e ∙ sym (big-split file place 1 1 there ∙ rw (high, low) (omega arith))

@@ -4,7 +4,7 @@ use payload::FieldU16;
 use payload::FieldU32;
 use refusal::Refusal;
 ghost use mathlib.Core.Path.{_≡_};
-ghost use Prim.Native.Nat.{_+_, _≤_};
+ghost use Prim.Native.Nat.{_+_, _-_, _≤_};
 ghost use lib.ListN.{length, take, drop};
 ghost use Rattle.payload.specs.Field.{big};
 ghost use Rattle.log.specs.Log.{kinds};
@@ -52,16 +52,16 @@ fn four_at(file: &[u8], place: usize) -> usize
     }
 }
 
-// The body length that a trailer says. Few bodies are over 255 bytes: for the others the high byte is only looked at, so that the place of
-// the next record does not wait for it.
-fn size_at(file: &[u8], place: usize) -> usize
-    requires { ⌜ place + 2 ≤ length (now file) ⌝ }
-    ensures { λ r. ⌜ r ≡ big (take 2 (drop place (now (file .entry)))) ⌝ }
+// The body length that the trailer before a place says. Few bodies are over 255 bytes: for the others the high byte is only looked at, so
+// that the place of the next record does not wait for it.
+fn size_before(file: &[u8], place: usize) -> usize
+    requires { ⌜ (2 ≤ place) × (place ≤ length (now file)) ⌝ }
+    ensures { λ r. ⌜ r ≡ big (take 2 (drop (place - 2) (now (file .entry)))) ⌝ }
 {
-    if file[place] == 0 {
-        return file[place + 1] as usize;
+    if file[place - 2] == 0 {
+        return file[place - 1] as usize;
     }
-    two_at(file, place)
+    two_at(file, place - 2)
 }
 
 // Whether there is such a kind, with a body of that length.
@@ -88,7 +88,7 @@ pub(crate) fn ending_at(file: &[u8], place: usize) -> Ending
     if place < 3 {
         return Ending::Refused(Refusal::BadTrailer);
     }
-    let size = size_at(file, place - 2);
+    let size = size_before(file, place);
     if place - 3 < size {
         return Ending::Refused(Refusal::BadTrailer);
     }
