@@ -488,7 +488,8 @@ mfc_written mfc_log_empty(uint8_t *file, size_t room);
  * start of the lent file, and answers the log's new length, 3 + n more. Refusals, in their
  * order: 1 where the length is past the lent file; 20 to 23 as for mfc_log_check; 22 where the
  * kind is none, or a silence mark has a body; 12 where the records would take over 65,000
- * bytes, and the next log is to be begun; 1 where the file has not the room. */
+ * bytes: begin the next log, and cut a body of over 64,997 bytes, which is 12 in every log; 1
+ * where the file has not the room. */
 mfc_written mfc_log_append(uint8_t *file, size_t room, size_t length, uint8_t kind,
                            const uint8_t *body, size_t n);
 

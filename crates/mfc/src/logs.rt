@@ -22,8 +22,8 @@ pub extern "C" fn mfc_log_empty(file: &mut [u8]) -> MfcWritten
 
 // Adds a record of a kind of MFC_LOG_.. and a body of n bytes to the log of that length at the start of the lent file, and answers the
 // log's new length, 3 + n more. Refusals, in their order: 1 where the length is past the lent file; 20 to 23 as for mfc_log_check; 22
-// where the kind is none, or a silence mark has a body; 12 where the records would take over 65,000 bytes, and the next log is to be
-// begun; 1 where the file has not the room.
+// where the kind is none, or a silence mark has a body; 12 where the records would take over 65,000 bytes: begin the next log, and cut a
+// body of over 64,997 bytes, which is 12 in every log; 1 where the file has not the room.
 #[no_mangle]
 pub extern "C" fn mfc_log_append(
     file: &mut [u8],
