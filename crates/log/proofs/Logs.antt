@@ -2,7 +2,7 @@
 use mathlib.Core.Path.{_≡_, refl, sym, ap, subst, _∙_}
 use mathlib.Core.Logic.{_⊎_, ⊎-elim}
 use mathlib.Core.Bool.{true, cond, not}
-use mathlib.Core.List.{List, [], _∷_, _++_, map, reverse, reverse-cons, reverse-append, reverse-reverse}
+use mathlib.Core.List.{List, [], _∷_, _++_, reverse, reverse-cons, reverse-append, reverse-reverse}
 use Prim.Native.Nat.{ℕ, _+_, _-_, _≤_}
 use native.Mathlib.Omega.{arith}
 use lib.Dec.{ltb}
@@ -18,7 +18,7 @@ use Rattle.log.specs.Check.{countIn, recordsBefore, badTotal, recordsOf}
 use Rattle.log.specs.Writer.{addedTo, append}
 use Rattle.log.specs.Logs.{Sized, Decides, Adds, Logs}
 use Rattle.log.proofs.Walk.{follows-reverse, FaultBefore}
-use Rattle.log.proofs.Tiling.{bad-short, bad-differs, bad-over, missized, sized, tile, log-is, length-log, log-listed, listed-is}
+use Rattle.log.proofs.Tiling.{bad-short, bad-differs, bad-over, missized, sized, tile, log-is, log-listed, listed-is}
 use Rattle.log.proofs.Adding.{append-past, appends}
 use Rattle.log.proofs.Parts.{rows-lead, in-parts, goes-on, not-shown}
 use Rattle.log.proofs.Faults.{same-number, Cause, total, record-bad, count, cause, refused-total, refused-record, refused-count, fault-reached, reached-fault, found-fault, found-records, not-refused, fault-21, fault-22, points-21, unknown-22, ending-number}

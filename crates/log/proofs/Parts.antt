@@ -3,19 +3,17 @@ use mathlib.Core.Path.{_≡_, refl, sym, ap, _∙_}
 use mathlib.Core.Bool.{Bool, true, false, cond}
 use mathlib.Core.List.{List, [], _∷_, _++_, append-assoc, map, reverse}
 use Prim.Native.Nat.{ℕ, zero, suc, _+_, _*_, _/_, _≤_, _<_}
-use native.Mathlib.Nat.{add-zero}
 use native.Mathlib.Omega.{arith}
 use lib.Dec.{ltb}
 use lib.ListN.{length, take, drop, length-take, length-drop}
 use lib.Seq.{take-at, drop-at, take-add, drop-drop}
-use borrow.Author.Tests.{ltb-false}
 use Rattle.refusal.specs.Refusals.{Numbered, number, Answered, served, refused}
 use Rattle.refusal.specs.Room.{overlay}
 use Rattle.refusal.proofs.Room.{take-overlay}
 use Rattle.payload.specs.Field.{bigEndian}
 use Rattle.log.specs.Log.{LogRecord, Rule, recorded, recordBytes, joined}
 use Rattle.log.specs.Check.{recordsOf}
-use Rattle.log.specs.Listing.{Row, rowed, rowsOf, numbersOf, layRows, listFrom, list}
+use Rattle.log.specs.Listing.{Row, rowsOf, numbersOf, layRows, listFrom, list}
 use Rattle.log.specs.Logs.{recordIn, rowsIn, laidIn, listedOn}
 use Rattle.log.proofs.Walk.{joined-newest}
 use Rattle.log.proofs.Rows.{length-rows, lay-some}

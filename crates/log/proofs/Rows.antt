@@ -12,7 +12,7 @@ use Rattle.refusal.proofs.Order.{refused-not-served}
 use Rattle.refusal.proofs.Room.{overlay-nothing, overlay-then, length-overlay, set-overlay, set-two}
 use Rattle.log.specs.Log.{LogRecord, Rule}
 use Rattle.log.specs.Check.{recordsBefore, counting, recordsOf}
-use Rattle.log.specs.Listing.{Row, rowed, rowsOf, numbersOf, layRows, listFrom, list}
+use Rattle.log.specs.Listing.{Row, rowsOf, numbersOf, layRows, listFrom, list}
 use Rattle.log.specs.Private.{shown}
 use Rattle.log.proofs.Turns.{Turn, passed}
 
