@@ -14,7 +14,7 @@
 
 #define LONGEST_NAME 1000
 #define NAME_ROOM (LONGEST_NAME + 24)             /* with a point and a number */
-#define LARGEST_GAP 1000                          /* of numbers in a row whose logs were moved away */
+#define LARGEST_GAP 100000                        /* of numbers in a row whose logs were moved away: a tenth of a second at the start */
 #define LONGEST_BODY ((size_t)MFC_LOG_ROOM - 8 - 3) /* of a log's only record: all but its trailer and the log's last eight bytes */
 
 static struct {
@@ -63,7 +63,7 @@ static const char *disk_advice(int number)
     case ENOSPC: case EDQUOT: case EFBIG:
         return "the disk is full, or this user's part of it: make room there";
     case EACCES: case EPERM: case EROFS:
-        return "no permission: let this user write in that folder, or give another FILE";
+        return "no permission: let this user read and write that folder, or give another FILE";
     case ENOENT: case ENOTDIR:
         return "no such folder: make it, or give another FILE";
     case ENAMETOOLONG:
@@ -170,6 +170,20 @@ static int read_all(int fd)
     return 1;
 }
 
+/* Whether the log's name leads to the file that is held. It does not where another program has just replaced that file. */
+static int is_held(void)
+{
+    struct stat held, named;
+
+    return fstat(kept.held, &held) == 0 && stat(kept.name, &named) == 0 && held.st_dev == named.st_dev
+        && held.st_ino == named.st_ino;
+}
+
+static const char *others(void)
+{
+    return fault("is the log of another program that runs", "stop that one, or give another FILE");
+}
+
 /* Goes on with the log that is there. */
 static const char *go_on(void)
 {
@@ -182,8 +196,8 @@ static const char *go_on(void)
     hold(fd);
     if (fstat(fd, &found) != 0 || !S_ISREG(found.st_mode))
         return fault("is no file", "give the name of a file");
-    if (flock(fd, LOCK_EX | LOCK_NB) != 0 && errno == EWOULDBLOCK)
-        return fault("is the log of another program that runs", "stop that one, or give another FILE");
+    if ((flock(fd, LOCK_EX | LOCK_NB) != 0 && errno == EWOULDBLOCK) || !is_held())
+        return others();
     if (!read_all(fd))
         return fault("cannot be read", "check the disk and its plug");
     checked = mfc_log_check(kept.bytes, kept.length);
@@ -216,9 +230,12 @@ static void find_newest(void)
 const char *log_open(const char *file)
 {
     const char *slash = strrchr(file, '/');
+    size_t n = strlen(file);
 
-    if (strlen(file) > LONGEST_NAME)
+    if (n > LONGEST_NAME)
         return "the name is too long: give a shorter one";
+    if (n >= 4 && strcmp(file + n - 4, ".new") == 0)
+        return "a name that ends in .new is that of a log being written: give another FILE";
     (void)snprintf(kept.file, sizeof kept.file, "%s", file);
     (void)snprintf(kept.fresh, sizeof kept.fresh, "%s.new", file);
     (void)snprintf(kept.folder, sizeof kept.folder, "%.*s", slash == NULL ? 1 : (int)(slash - file) + 1, slash == NULL ? "." : file);
@@ -229,6 +246,8 @@ const char *log_open(const char *file)
     /* It is saved now, so that the user is told before the polling of a place where that cannot be done. */
     begin_empty();
     kept.saved = replace();
+    if (kept.saved ? !is_held() : errno == ENOENT && is_there())
+        return others(); /* both were started at once */
     if (!kept.saved)
         return fault("cannot be written", disk_advice(errno));
     (void)printf("log %s: begun\n", kept.name);

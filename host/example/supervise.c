@@ -240,6 +240,9 @@ static void stop_on_signals(void)
     (void)sigemptyset(&action.sa_mask);
     (void)sigaction(SIGINT, &action, NULL);
     (void)sigaction(SIGTERM, &action, NULL);
+    /* A log that is over the largest file allowed is not saved, and the polling goes on. */
+    action.sa_handler = SIG_IGN;
+    (void)sigaction(SIGXFSZ, &action, NULL);
 }
 
 /* Opens what the options name. Returns 0, and tells the user, where that fails. */

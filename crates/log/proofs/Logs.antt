@@ -20,7 +20,7 @@ use Rattle.log.specs.Logs.{Sized, Decides, Adds, Logs}
 use Rattle.log.proofs.Walk.{follows-reverse, FaultBefore}
 use Rattle.log.proofs.Tiling.{bad-short, bad-differs, bad-over, missized, sized, tile, log-is, log-listed, listed-is}
 use Rattle.log.proofs.Adding.{append-past, appends}
-use Rattle.log.proofs.Parts.{rows-lead, in-parts, goes-on, not-shown}
+use Rattle.log.proofs.Parts.{rows-lead, in-parts, lays, not-shown}
 use Rattle.log.proofs.Faults.{same-number, Cause, total, record-bad, count, cause, refused-total, refused-record, refused-count, fault-reached, reached-fault, found-fault, found-records, not-refused, fault-21, fault-22, points-21, unknown-22, ending-number}
 
 module _ (rule : Rule) (file : List ℕ) (bytes : Bytes file) where
@@ -127,7 +127,9 @@ module _ (rule : Rule) where
       refuses-12 = λ k h. adding-more ∙ rw (k, lt-ltb most (length (joined more)) h);
       refuses-1 = λ g h. emitted g ∙ emit-refused (logOf more) buffer h;
       adds = λ g h. emitted g ∙ emit-served (logOf more) buffer h;
-      reads-back = λ g. ap (recordsOf rule) (take-overlay buffer (logOf more)) ∙ log-listed rule more g ∙ ap served (reverse-append records (r ∷ []));
+      reads-back = λ g h.
+          ap (λ (o : Answered ℕ × List ℕ). recordsOf rule (take (length (logOf more)) (o .1))) (emitted g ∙ emit-served (logOf more) buffer h)
+          ∙ ap (recordsOf rule) (take-overlay buffer (logOf more)) ∙ log-listed rule more g ∙ ap served (reverse-append records (r ∷ []));
     }
 
   not-log : (n : Numbered) (r : LogRecord) (buffer : List ℕ) → addedTo rule (refused n) r buffer ≡ (refused n, buffer)
@@ -140,7 +142,7 @@ module _ (rule : Rule) where
     one-list = one-list;
     listed-once = λ records good. rows-lead (logOf records) (reverse records) _ (log-is records ∙ ap (λ (l : List LogRecord). joined l ++ closing (length records) (length (joined records))) (sym (reverse-reverse records)));
     in-parts = in-parts rule;
-    goes-on = goes-on rule;
+    lays = lays rule;
     not-shown = not-shown rule;
     past = λ buffer size r h. sym (append-past rule r buffer size h);
     no-log = λ buffer size r n h e. appends rule r buffer size h ∙ ap (λ (a : Answered (List LogRecord)). addedTo rule a r buffer) e ∙ not-log n r buffer;

@@ -2,7 +2,7 @@
 use mathlib.Core.Path.{_≡_, refl, sym, ap, _∙_}
 use mathlib.Core.Bool.{Bool, true, false, cond}
 use mathlib.Core.List.{List, [], _∷_, _++_, append-assoc, map, reverse}
-use Prim.Native.Nat.{ℕ, zero, suc, _+_, _*_, _/_, _≤_, _<_}
+use Prim.Native.Nat.{ℕ, zero, suc, _+_, _-_, _*_, _/_, min, _≤_, _<_}
 use native.Mathlib.Omega.{arith}
 use lib.Dec.{ltb}
 use lib.ListN.{length, take, drop, length-take, length-drop}
@@ -102,8 +102,15 @@ module _ (rule : Rule) (file : List ℕ) where
     pub in-parts : (rooms : List (List ℕ)) → (n : ℕ) × (listedOn rule file 0 rooms ≡ numbersOf (take n (rowsOf listing)))
     in-parts rooms = parts-from 0 rooms
 
-    pub goes-on : (skip : ℕ) (room : List ℕ) → skip < length listing → 3 ≤ length room → 0 < rowsIn (list rule file skip room .0)
-    goes-on skip room h k =
+    pub lays : (skip : ℕ) (room : List ℕ) → skip < length listing → 3 ≤ length room
+        → list rule file skip room
+        ≡ (
+          served (min (length room / 3) (length listing - skip)),
+          overlay room 0 (numbersOf (take (length room / 3) (drop skip (rowsOf listing)))),
+        )
+    lays skip room h k =
         let l : List Row = drop skip (rowsOf listing) in
-        let some : 0 < length l = simp length-drop (omega (arith, length-rows listing)) in
-        rw (lists skip room ∙ lay-some l room some k) (rw (length-take (length room / 3) l) (omega arith))
+        let left : length l ≡ length listing - skip = length-drop skip (rowsOf listing) ∙ ap (λ (n : ℕ). n - skip) (length-rows listing) in
+        let many : length (take (length room / 3) l) ≡ min (length room / 3) (length listing - skip) =
+        length-take (length room / 3) l ∙ ap (min (length room / 3)) left in
+        lists skip room ∙ lay-some l room (omega arith) k ∙ ap (λ (n : ℕ). (served n, overlay room 0 (numbersOf (take (length room / 3) l)))) many

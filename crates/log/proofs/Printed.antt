@@ -132,6 +132,8 @@ module _ (rule : Rule) (file : List ℕ) (bytes : Bytes file) where
 
 pub printed : (rule : Rule) → Printed rule
 printed rule = record {
+  lines = λ file listing e. text-is rule file listing e;
+  not-shown = λ file n e. sym (text-refused rule file (ap counting (sym e)));
   begins = λ file rooms. parts-from (logText rule file) 0 rooms;
   goes-on = λ file from room h k. on (logText rule file) from room h k;
   ends = λ file bytes. text-short rule file bytes;

@@ -1,6 +1,6 @@
 -- The claims about logs, over the definitions and for all files and records. The proof is `logs` of proofs/Logs.antt. A check that refuses
 -- everything, and one that serves too few records, do not meet them.
-use Prim.Native.Nat.{ℕ, _+_, _-_, _*_, _≤_, _<_}
+use Prim.Native.Nat.{ℕ, _+_, _-_, _*_, _/_, min, _≤_, _<_}
 use mathlib.Core.Path.{_≡_}
 use mathlib.Core.Logic.{_↔_, _⊎_}
 use mathlib.Core.Bool.{true, false}
@@ -54,9 +54,10 @@ pub record Adds (rule : Rule) (records : List LogRecord) (r : LogRecord) (buffer
   pub adds : Good rule (records ++ (r ∷ [])) → length (logOf (records ++ (r ∷ []))) ≤ length buffer
       → append rule buffer (length (logOf records)) r
       ≡ (served (length (logOf (records ++ (r ∷ [])))), overlay buffer 0 (logOf (records ++ (r ∷ []))))
-  -- and it is read back
-  pub reads-back : Good rule (records ++ (r ∷ []))
-      → recordsOf rule (take (length (logOf (records ++ (r ∷ [])))) (overlay buffer 0 (logOf (records ++ (r ∷ []))))) ≡ served (r ∷ reverse records)
+  -- and what the buffer then holds is read back
+  pub reads-back : Good rule (records ++ (r ∷ [])) → length (logOf (records ++ (r ∷ []))) ≤ length buffer
+      → recordsOf rule (take (length (logOf (records ++ (r ∷ [])))) (append rule buffer (length (logOf records)) r .1))
+      ≡ served (r ∷ reverse records)
 
 -- the record that a row leads to
 abbrev pub recordIn : List ℕ → Row → LogRecord
@@ -85,9 +86,14 @@ pub record Logs (rule : Rule) : Type 0 where
   pub listed-once : (records : List LogRecord) → Good rule records → map (recordIn (logOf records)) (rowsOf (reverse records)) ≡ reverse records
   pub in-parts : (file : List ℕ) (listing : List LogRecord) → recordsOf rule file ≡ served listing → (rooms : List (List ℕ))
       → (n : ℕ) × (listedOn rule file 0 rooms ≡ numbersOf (take n (rowsOf listing)))
-  -- with room for a row it goes on as long as there is one
-  pub goes-on : (file : List ℕ) (listing : List LogRecord) → recordsOf rule file ≡ served listing → (skip : ℕ) (room : List ℕ)
-      → skip < length listing → 3 ≤ length room → 0 < rowsIn (list rule file skip room .0)
+  -- with room for a row, as many as fit are laid at its start, and all else in it is as it was: so it goes on as long as there is a row
+  pub lays : (file : List ℕ) (listing : List LogRecord) → recordsOf rule file ≡ served listing → (skip : ℕ) (room : List ℕ)
+      → skip < length listing → 3 ≤ length room
+      → list rule file skip room
+      ≡ (
+        served (min (length room / 3) (length listing - skip)),
+        overlay room 0 (numbersOf (take (length room / 3) (drop skip (rowsOf listing)))),
+      )
   -- "of any other nothing is shown"
   pub not-shown : (file : List ℕ) (n : Numbered) → recordsOf rule file ≡ refused n → (skip : ℕ) (room : List ℕ)
       → list rule file skip room ≡ (refused n, room)

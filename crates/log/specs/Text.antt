@@ -6,7 +6,7 @@ use mathlib.Core.Bool.{cond}
 use mathlib.Core.List.{List, [], _∷_, _++_}
 use lib.Dec.{ltb, eqb}
 use lib.ListN.{length, take, drop}
-use Rattle.refusal.specs.Refusals.{numberIn, Answered, served, refused}
+use Rattle.refusal.specs.Refusals.{Numbered, numberIn, Answered, served, refused}
 use Rattle.refusal.specs.Room.{overlay}
 use Rattle.payload.specs.Field.{Bytes}
 use Rattle.log.specs.Log.{LogRecord, Rule}
@@ -75,6 +75,9 @@ printedOn text from (room ∷ rooms) =
 
 -- The claim about the parts of a text. The proof is `printed` of proofs/Printed.antt.
 pub record Printed (rule : Rule) : Type 0 where
+  -- of a log the lines of its records, the newest first; of any other file the one line
+  pub lines : (file : List ℕ) (listing : List LogRecord) → recordsOf rule file ≡ served listing → logText rule file ≡ linesOf listing
+  pub not-shown : (file : List ℕ) (n : Numbered) → recordsOf rule file ≡ refused n → logText rule file ≡ refusedLine (numberIn n)
   -- whatever the room, they are its beginning, nothing left out and nothing twice
   pub begins : (file : List ℕ) (rooms : List (List ℕ)) → (n : ℕ) × (printedOn (logText rule file) 0 rooms ≡ take n (logText rule file))
   -- with room for a byte it goes on as long as there is one

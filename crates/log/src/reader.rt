@@ -52,8 +52,8 @@ fn four_at(file: &[u8], place: usize) -> usize
     }
 }
 
-// The body length that the trailer before a place says. Few bodies are over 255 bytes: for the others the high byte is only looked at, so
-// that the place of the next record does not wait for it.
+// The body length that the trailer before a place says. Few bodies are over 255 bytes: for the others the high byte is only compared with
+// 0, so that the place of the next record does not wait for it.
 fn size_before(file: &[u8], place: usize) -> usize
     requires { ⌜ (2 ≤ place) × (place ≤ length (now file)) ⌝ }
     ensures { λ r. ⌜ r ≡ big (take 2 (drop (place - 2) (now (file .entry)))) ⌝ }
