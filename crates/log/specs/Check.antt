@@ -40,7 +40,8 @@ newestOf (refused n) (refused m) = refused n
 newestOf (served r) (refused n) = refused n
 newestOf (served r) (served older) = served (r ∷ older)
 
--- the records before a place, from the newest to the start of the file; each takes three bytes or more, so that as many turns as bytes are enough
+-- the records before a place, from the newest to the start of the file; each takes three bytes or more, so that as many turns as bytes
+-- are enough
 unfoldable pub walk : Rule → List ℕ → ℕ → ℕ → Answered (List LogRecord)
 walk rule file zero place = served []
 walk rule file (suc turns) place =

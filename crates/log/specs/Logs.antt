@@ -37,10 +37,12 @@ pub record Decides (rule : Rule) (file : List ℕ) : Type 0 where
       ↔ (Sized file × (place : ℕ) × Reached rule file place × ((place < 3) ⊎ (place - 3 < sizeAt file place)))
   -- "else 22 for an unknown kind or a kind 3 with a body"
   pub refuses-22 : (recordsOf rule file ≡ refused (number 22))
-      ↔ (Sized file × (place : ℕ) × Reached rule file place × (3 ≤ place) × (sizeAt file place ≤ place - 3) × (rule (kindAt file place) (sizeAt file place) ≡ false))
+      ↔ (Sized file × (place : ℕ) × Reached rule file place × (3 ≤ place) × (sizeAt file place ≤ place - 3)
+      × (rule (kindAt file place) (sizeAt file place) ≡ false))
   -- "then 23 wrong count"
   pub refuses-23 : (recordsOf rule file ≡ refused (number 23))
-      ↔ (Sized file × (records : List LogRecord) × Follows rule records × (take (length file - 8) file ≡ joined records) × (length records ≡ countIn file → ⊥))
+      ↔ (Sized file × (records : List LogRecord) × Follows rule records × (take (length file - 8) file ≡ joined records)
+      × (length records ≡ countIn file → ⊥))
   -- served is the file of a list of good records, and no other; the list is given newest first
   pub serves : (records : List LogRecord) → (recordsOf rule file ≡ served (reverse records)) ↔ (Good rule records × (file ≡ logOf records))
 
