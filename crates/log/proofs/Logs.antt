@@ -1,22 +1,22 @@
 -- The claims about logs. Assumes nothing.
 use mathlib.Core.Path.{_≡_, refl, sym, ap, subst, _∙_}
-use mathlib.Core.Logic.{_⊎_, ⊎-elim}
-use mathlib.Core.Bool.{true, cond, not}
+use mathlib.Core.Logic.{_⊎_, inl, inr, ⊎-elim}
+use mathlib.Core.Bool.{Bool, true, false, cond, not, _||_, _&&_, true≢false}
 use mathlib.Core.List.{List, [], _∷_, _++_, reverse, reverse-cons, reverse-append, reverse-reverse}
 use Prim.Native.Nat.{ℕ, _+_, _-_, _≤_}
 use native.Mathlib.Omega.{arith}
-use lib.Dec.{ltb}
+use lib.Dec.{ltb, eqb}
 use lib.ListN.{length, take, drop, length-take, length-reverse, take-append-drop}
 use lib.Seq.{length-take-le}
-use borrow.Author.Tests.{lt-ltb, le-ltb}
+use borrow.Author.Tests.{lt-ltb, le-ltb, eqb-true}
 use Rattle.refusal.specs.Refusals.{Numbered, number, Answered, served, refused}
 use Rattle.refusal.specs.Room.{emit}
 use Rattle.refusal.proofs.Room.{take-overlay, emit-served, emit-refused}
 use Rattle.payload.specs.Field.{Bytes}
-use Rattle.log.specs.Log.{LogRecord, Rule, joined, closing, logOf, Follows, Good, most}
+use Rattle.log.specs.Log.{LogRecord, Rule, kinds, joined, closing, logOf, Follows, Good, most}
 use Rattle.log.specs.Check.{countIn, recordsBefore, badTotal, recordsOf}
 use Rattle.log.specs.Writer.{addedTo, append}
-use Rattle.log.specs.Logs.{Sized, Decides, Adds, Logs}
+use Rattle.log.specs.Logs.{Kinds, Sized, Decides, Adds, Logs}
 use Rattle.log.proofs.Walk.{follows-reverse, FaultBefore}
 use Rattle.log.proofs.Tiling.{bad-short, bad-differs, bad-over, missized, sized, tile, log-is, log-listed, listed-is}
 use Rattle.log.proofs.Adding.{append-past, appends}
@@ -148,3 +148,20 @@ module _ (rule : Rule) where
     no-log = λ buffer size r n h e. appends rule r buffer size h ∙ ap (λ (a : Answered (List LogRecord)). addedTo rule a r buffer) e ∙ not-log n r buffer;
     added = λ records r buffer good stands. adds records r buffer good stands;
   }
+
+pub known-kinds : Kinds
+unfolding kinds
+known-kinds = record {
+  known = λ kind size. (
+    go (eqb kind 1) refl (eqb kind 2) refl (eqb kind 3) refl (eqb size 0) refl,
+    ⊎-elim (λ e. rw e) (⊎-elim (λ e. rw e) (λ e. rw (e .0, e .1))),
+  );
+}
+  where
+    go : {kind size : ℕ} (a : Bool) → eqb kind 1 ≡ a → (b : Bool) → eqb kind 2 ≡ b → (c : Bool) → eqb kind 3 ≡ c → (d : Bool) → eqb size 0 ≡ d
+        → (a || (b || (c && d))) ≡ true → (kind ≡ 1) ⊎ ((kind ≡ 2) ⊎ ((kind ≡ 3) × (size ≡ 0)))
+    go true e b f c g d h k = inl (eqb-true _ _ e)
+    go false e true f c g d h k = inr (inl (eqb-true _ _ f))
+    go false e false f true g true h k = inr (inr (eqb-true _ _ g, eqb-true _ _ h))
+    go false e false f true g false h k = absurd (true≢false (sym k))
+    go false e false f false g d h k = absurd (true≢false (sym k))

@@ -1,5 +1,5 @@
--- The claims about logs, over the definitions and for all files and records. The proof is `logs` of proofs/Logs.antt. A check that refuses
--- everything, and one that serves too few records, do not meet them.
+-- The claims about logs, over the definitions and for all files and records. The proofs are `logs` and `known-kinds` of proofs/Logs.antt. A
+-- check that refuses everything, and one that serves too few records, do not meet them.
 use Prim.Native.Nat.{ℕ, _+_, _-_, _*_, _/_, min, _≤_, _<_}
 use mathlib.Core.Path.{_≡_}
 use mathlib.Core.Logic.{_↔_, _⊎_}
@@ -9,10 +9,15 @@ use lib.ListN.{length, take, drop}
 use Rattle.refusal.specs.Refusals.{Numbered, number, Answered, served, refused}
 use Rattle.refusal.specs.Room.{overlay}
 use Rattle.payload.specs.Field.{Bytes}
-use Rattle.log.specs.Log.{LogRecord, Rule, recorded, joined, logOf, Follows, Good, most}
+use Rattle.log.specs.Log.{LogRecord, Rule, kinds, recorded, joined, logOf, Follows, Good, most}
 use Rattle.log.specs.Check.{kindAt, sizeAt, countIn, totalIn, recordsOf}
 use Rattle.log.specs.Listing.{Row, rowsOf, numbersOf, list}
 use Rattle.log.specs.Writer.{append}
+
+-- The kinds there are, in 02's words; all else is claimed for every rule. "Kind 1 is request-side bytes, 2 reply-side bytes, 3 a silence
+-- mark (empty body)."
+pub record Kinds : Type 0 where
+  pub known : (kind size : ℕ) → (kinds kind size ≡ true) ↔ ((kind ≡ 1) ⊎ ((kind ≡ 2) ⊎ ((kind ≡ 3) × (size ≡ 0))))
 
 -- none of the three conditions of 20 holds
 pub record Sized (file : List ℕ) : Type 0 where
