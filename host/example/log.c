@@ -14,7 +14,7 @@
 
 #define LONGEST_NAME 1000
 #define NAME_ROOM (LONGEST_NAME + 24)             /* with a point and a number */
-#define LARGEST_GAP 100000                        /* of numbers in a row whose logs were moved away: a tenth of a second at the start */
+#define LARGEST_GAP 100000                        /* of numbers in a row whose logs were moved away: looked for once, in under a second */
 #define LONGEST_BODY ((size_t)MFC_LOG_ROOM - 8 - 3) /* of a log's only record: all but its trailer and the log's last eight bytes */
 
 static struct {

@@ -57,11 +57,11 @@ countIn file = big (take 4 (drop (length file - 8) file))
 unfoldable pub totalIn : List ℕ → ℕ
 totalIn file = big (take 4 (drop (length file - 4) file))
 
--- 20
+-- 20: "a file under 8 bytes, a total that differs from what precedes it, or one over 65,000"
 unfoldable pub badTotal : List ℕ → Bool
 badTotal file = ltb (length file) 8 || (not (eqb (totalIn file) (length file - 8)) || ltb most (totalIn file))
 
--- 23
+-- 23: "wrong count", where the records are good
 abbrev pub counted : ℕ → Answered (List LogRecord) → Answered (List LogRecord)
 counted count (refused n) = refused n
 counted count (served records) = cond (eqb (length records) count) (served records) (refused (number 23))

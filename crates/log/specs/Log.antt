@@ -24,6 +24,7 @@ Rule = ℕ → ℕ → Bool
 unfoldable pub kinds : Rule
 kinds kind size = eqb kind 1 || (eqb kind 2 || (eqb kind 3 && eqb size 0))
 
+-- its body, its kind, and the body's length
 unfoldable pub recordBytes : LogRecord → List ℕ
 recordBytes r = r .body ++ (r .kind ∷ bigEndian 2 (length (r .body)))
 
@@ -40,6 +41,7 @@ closing count total = bigEndian 4 count ++ bigEndian 4 total
 unfoldable pub logOf : List LogRecord → List ℕ
 logOf records = joined records ++ closing (length records) (length (joined records))
 
+-- every record is of a kind that there is, with a body as long as that kind's may be
 unfoldable pub Follows : Rule → List LogRecord → Type 0
 Follows rule [] = Unit {0}
 Follows rule (r ∷ records) = (rule (r .kind) (length (r .body)) ≡ true) × Follows rule records
