@@ -326,8 +326,7 @@ uint8_t mfc_checksum(const uint8_t *bytes, size_t n);
 /* Writes the frame of a request. Refusals, in their order: 11 for a request over 20; 12 for an
  * address over 254 to be set, or a baud that is none of 9600, 19200, 38400, 57600 and 115200;
  * 13 for a float that is not finite; 10 for set address sent to 255; 1 where the frame is
- * longer than room (MFC_REQUEST_ROOM bytes hold any). No request has over 255 data bytes, so
- * refusal 5 does not come. */
+ * longer than room (MFC_REQUEST_ROOM bytes hold any). */
 mfc_written mfc_write_request(uint8_t address, uint8_t request, uint32_t value,
                               uint8_t *out, size_t room);
 
@@ -351,8 +350,7 @@ mfc_request mfc_read_request(const uint8_t *body, size_t n);
  * over 254, a baud that is none of the five, an error code outside 1 to 127, or a text that
  * holds a 00 or is over 254 bytes; 13 for a float that is neither finite nor one of the three
  * codings; 1 where the frame is longer than room (MFC_REPLY_ROOM bytes hold any). A validity is
- * 0 for no, else yes, which is sent as 01. A text too long for a frame is 12 already, so
- * refusal 5 does not come. */
+ * 0 for no, else yes, which is sent as 01. */
 mfc_written mfc_write_reply(uint8_t address, uint8_t request, uint32_t value, uint8_t reply,
                             uint32_t reply_value, const uint8_t *text, size_t n, uint8_t bit7,
                             uint8_t *out, size_t room);

@@ -210,8 +210,7 @@ fn write_known(
 // itself, as of mfc_write_request; 14 for a request to 255, a reply over 15, or one that is neither expected nor a device error; 12 for a
 // raw flow or raw conductivity over 65,535, an address over 254, a baud that is none of the five, an error code outside 1 to 127, or a
 // text that holds a 00 or is over 254 bytes; 13 for a float that is neither finite nor one of the three codings; 1 where the frame is
-// longer than room (MFC_REPLY_ROOM bytes hold any). A validity is 0 for no, else yes, which is sent as 01. A text too long for a frame is
-// 12 already, so refusal 5 does not come.
+// longer than room (MFC_REPLY_ROOM bytes hold any). A validity is 0 for no, else yes, which is sent as 01.
 #[no_mangle]
 pub extern "C" fn mfc_write_reply(
     address: u8,

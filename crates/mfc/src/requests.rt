@@ -36,7 +36,7 @@ pub(crate) fn wide(a: u8) -> u32
 
 // Writes the frame of a request. Refusals, in their order: 11 for a request over 20; 12 for an address over 254 to be set, or a baud that
 // is none of 9600, 19200, 38400, 57600 and 115200; 13 for a float that is not finite; 10 for set address sent to 255; 1 where the frame is
-// longer than room (MFC_REQUEST_ROOM bytes hold any). No request has over 255 data bytes, so refusal 5 does not come.
+// longer than room (MFC_REQUEST_ROOM bytes hold any).
 #[no_mangle]
 pub extern "C" fn mfc_write_request(
     address: u8,

@@ -1,11 +1,10 @@
 -- When a writer gives each number, and when it serves: the claim of specs/Order.antt, for every list of checks. Assumes nothing.
-use mathlib.Core.Path.{_≡_, refl, sym, ap, subst, _∙_}
-use mathlib.Core.Logic.{_⊎_, inl, inr, ⊎-elim, _↔_}
+use mathlib.Core.Path.{_≡_, refl, sym, ap, _∙_}
+use mathlib.Core.Logic.{_⊎_, inl, inr, ⊎-elim}
 use mathlib.Core.Bool.{Bool, true, false, cond, true≢false}
 use mathlib.Core.List.{List, [], _∷_, _++_}
 use Prim.Native.Nat.{ℕ, _≤_, _<_}
-use native.Mathlib.Omega.{arith}
-use borrow.Author.Tests.{lt-ltb, le-ltb, eq-eqb, ltb-true, ltb-false}
+use borrow.Author.Tests.{ltb-true, ltb-false}
 use lib.Dec.{ltb, eqb}
 use lib.ListN.{length}
 use Rattle.refusal.specs.Refusals.{Numbered, number, numberIn, Answered, served, refused, inOrder}
@@ -90,27 +89,19 @@ pub in-order-append : {A : Type 0} (checks more less : List (Bool × Numbered)) 
 in-order-append [] more less a e = e
 in-order-append (check ∷ checks) more less a e = rw (in-order-append checks more less a e)
 
--- a check at the end that does not hold changes no answer
-pub in-order-last : {A : Type 0} (checks : List (Bool × Numbered)) (n : Numbered) (a : A) → inOrder (checks ++ ((false, n) ∷ [])) a ≡ inOrder checks a
-in-order-last [] n a = refl
-in-order-last (check ∷ checks) n a = rw (in-order-last checks n a)
+-- a check at the end that never holds where those before it pass changes no answer
+pub in-order-idle : {A : Type 0} (checks : List (Bool × Numbered)) (last : Bool) (n : Numbered) (a : A) → (Passed checks → last ≡ false)
+    → inOrder (checks ++ ((last, n) ∷ [])) a ≡ inOrder checks a
+in-order-idle [] last n a h = rw (h tt)
+in-order-idle {A} (check ∷ checks) last n a h = go (check .0) refl (in-order-idle checks last n a)
+  where
+    go : (t : Bool) → check .0 ≡ t
+        → ((Passed checks → last ≡ false) → inOrder (checks ++ ((last, n) ∷ [])) a ≡ inOrder checks a)
+        → cond {A = Answered A} t (refused (check .1)) (inOrder (checks ++ ((last, n) ∷ [])) a) ≡ cond t (refused (check .1)) (inOrder checks a)
+    go true e on = refl
+    go false e on = on (λ p. h (e, p))
 
--- a number that no check has, and that is not 1, is not given
+-- a number that no check has
 abbrev pub Without : ℕ → List (Bool × Numbered) → Type 0
 Without k [] = Unit {0}
 Without k (check ∷ checks) = (eqb (numberIn (check .1)) k ≡ false) × Without k checks
-
-first-without : (k : ℕ) (checks : List (Bool × Numbered)) → Without k checks → FirstIs (number k) checks → ⊥
-first-without k [] w f = f
-first-without k (check ∷ checks) w f =
-    ⊎-elim
-    (λ this. wrong (sym (eq-eqb k k refl) ∙ subst (λ (n : Numbered). eqb (numberIn n) k ≡ false) (this .1) (w .0)))
-    (λ later. first-without k checks (w .1) (later .1))
-    f
-
-pub not-among : (k : ℕ) (checks : List (Bool × Numbered)) (bytes room : List ℕ) (answer : Answered ℕ) → Decides checks bytes room answer
-    → Without k checks → eqb 1 k ≡ false → answer ≡ refused (number k) → ⊥
-not-among k checks bytes room answer d w one h =
-    ⊎-elim (first-without k checks w)
-    (λ r. wrong (sym (eq-eqb k k refl) ∙ subst (λ (n : Numbered). eqb (numberIn n) k ≡ false) (sym (r .0)) one))
-    (d .refuses (number k) .0 h)

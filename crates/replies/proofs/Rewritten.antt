@@ -9,7 +9,7 @@ use native.Mathlib.Omega.{arith}
 use lib.Dec.{T, eqb, leb}
 use lib.ListN.{length, getD, take, drop, length-append, length-take, length-drop}
 use lib.Seq.{take-take}
-use borrow.Author.Tests.{lt-ltb, le-ltb, leb-true, leb-false, eqb-true, ltb-false, not-false}
+use borrow.Author.Tests.{lt-ltb, le-ltb, leb-true, leb-false, eqb-true, not-false}
 use Rattle.refusal.specs.Refusals.{Numbered, number, _carrying_, numberIn, Answered, served, refused, inOrder}
 use Rattle.refusal.specs.Room.{emit, lay}
 use Rattle.refusal.proofs.Order.{passed}
@@ -43,7 +43,6 @@ use Rattle.replies.proofs.Writing.{frame}
 use Rattle.replies.proofs.Answers.{not-number, got, lengths}
 use Rattle.replies.proofs.Table.{contentFrom, tabled}
 use Rattle.replies.specs.ReadBack.{overOne}
-use Rattle.replies.proofs.Accepted.{data-short}
 use Rattle.replies.proofs.Kept.{empty, Again, again}
 use Rattle.replies.proofs.Written.{Accepted, to-write}
 
@@ -244,17 +243,14 @@ module _ (address : ℕ) (q : Request) (body : List ℕ) (b : Bytes body) (r : R
       (payload-length address q body bit7 shown ∙ eqb-true _ _ size) (ap badFloat (sym value-carried) ∙ float-fits)
 
   pub value-accepted : (words : List ℕ) → Accepted address q r words
-  value-accepted words =
-      let free : badText (contentOf r) words ≡ false = ap (λ (x : Content). badText x words) value-carried ∙ data-again words .free in
-      record {
-        request-good = shown .request-good;
-        one = belongs address (row q) body (shown .own) .0;
-        suit = same-kind q r (ap kindOf (sym (sized .2)) ∙ tabled q (big (dataIn body)) .kind);
-        in-range = ap (λ (x : Reply). outOfRange (contentOf x)) (sym (sized .2)) ∙ passing .range;
-        good-text = free;
-        good-float = float-fits;
-        short = ltb-false _ _ (data-short (contentOf r) words free);
-      }
+  value-accepted words = record {
+    request-good = shown .request-good;
+    one = belongs address (row q) body (shown .own) .0;
+    suit = same-kind q r (ap kindOf (sym (sized .2)) ∙ tabled q (big (dataIn body)) .kind);
+    in-range = ap (λ (x : Reply). outOfRange (contentOf x)) (sym (sized .2)) ∙ passing .range;
+    good-text = ap (λ (x : Content). badText x words) value-carried ∙ data-again words .free;
+    good-float = float-fits;
+  }
 
   value-again : overOne (contentOf r) (dataIn body) ≡ false → (words room : List ℕ)
       → writeReply address q r words bit7 room ≡ emit (closed (stuff body)) room
@@ -292,7 +288,6 @@ error-again address q body b code bit7 h words room =
       in-range = rw (← e, s .0) (rw e (le-ltb 127 code small));
       good-text = refl;
       good-float = refl;
-      short = omega arith;
     } in
     same-bytes address q body bit7 p b (DeviceError code) words room a (empty (dataIn body) none-there) (sym e)
 
@@ -332,7 +327,6 @@ module _ (address : ℕ) (q : Request) (body : List ℕ) (place n : ℕ) (bit7 :
         in-range = refl;
         good-text = rw (le-ltb 254 (length words) (omega arith)) clean;
         good-float = refl;
-        short = omega (arith, length-append words (0 ∷ []));
       }
 
   pub text-again : (room : List ℕ) → n ≤ 254

@@ -2,17 +2,16 @@
 use mathlib.Core.Path.{_≡_, refl, sym, ap, _∙_}
 use mathlib.Core.Bool.{Bool, true, false, cond, not}
 use mathlib.Core.List.{List, [], _∷_, _++_}
-use Prim.Native.Nat.{ℕ, _+_, _≤_, _<_}
+use Prim.Native.Nat.{ℕ, _+_, _≤_}
 use native.Mathlib.Omega.{arith}
-use lib.Dec.{ltb}
 use lib.ListN.{length, length-append}
-use borrow.Author.Tests.{eq-eqb, ne-eqb, lt-ltb, le-ltb}
+use borrow.Author.Tests.{eq-eqb, ne-eqb}
 use Rattle.refusal.specs.declared.Refusal.{Refusal}
 use Rattle.refusal.specs.Refusals.{Numbered, number, Answered, served, refused, paper, inOrder}
 use Rattle.shdlc.specs.declared.Checked.{Checked}
 use Rattle.shdlc.specs.declared.Checked.the-variants as checked
-use Rattle.refusal.specs.Room.{lay}
-use Rattle.shdlc.specs.Frame.{frameOf, writeFrame}
+use Rattle.refusal.specs.Room.{emit, lay}
+use Rattle.shdlc.specs.Frame.{writeFrame}
 use Rattle.shdlc.specs.Paper.{writtenOf}
 use Rattle.sfc6.specs.declared.Request.{Request}
 use Rattle.sfc6.specs.declared.Row.{Row}
@@ -27,30 +26,28 @@ use Rattle.replies.specs.declared.Taken.the-variants as taken
 use Rattle.replies.specs.Replies.{suits, contentOf, outOfRange, badFloat}
 use Rattle.replies.specs.Writer.{badText, dataOf, stateOf, bodyOf, frameFor, writeChecks, frameToWrite, writeReply}
 use Rattle.replies.specs.Paper.{paperTaken}
+use Rattle.replies.proofs.Accepted.{data-short}
 use Rattle.replies.proofs.Taking.{Take}
 
--- a frame by its data, with 5 and 1 left to test
-abbrev pub toLay : List ℕ → List ℕ → List ℕ → Answered ℕ × List ℕ
-toLay payload frame room = lay (inOrder ((ltb 255 (length payload), number 5) ∷ []) frame) room
+-- the parts of data that are not refused have at most 255 bytes together
+pub parts-short : (c : Content) (text : List ℕ) → badText c text ≡ false → (first last : List ℕ) → first ++ last ≡ dataOf c text
+    → length first + length last ≤ 255
+parts-short c text h first last e = omega (arith, length-append first last, ap length e, data-short c text h)
 
-module _ (address command state : ℕ) (text last room : List ℕ) (size : ℕ) (counted : size ≡ length text + length last) where
-  pub parts-long : 255 < size → (refused (number 5), room) ≡ toLay (text ++ last) (frameOf (bodyOf address command state (text ++ last))) room
-  parts-long h = let l : 255 < length (text ++ last) = omega (arith, length-append text last) in rw (lt-ltb _ _ l)
-
-  pub parts-written : size ≤ 255 → (n : ℕ) {a : Answered ℕ} {w : List ℕ} → a ≡ writtenOf n
+module _ (address command : ℕ) (room : List ℕ) where
+  pub parts-written : (state : ℕ) (text last : List ℕ) (size n : ℕ) {a : Answered ℕ} {w : List ℕ} → size ≡ length text + length last → a ≡ writtenOf n
       → (writtenOf n, w) ≡ writeFrame ((address ∷ command ∷ state ∷ size ∷ []) ++ (text ++ last)) room
-      → (a, w) ≡ toLay (text ++ last) (frameOf (bodyOf address command state (text ++ last))) room
+      → (a, w) ≡ writeFrame (bodyOf address command state (text ++ last)) room
   unfolding bodyOf
-  parts-written h n e f =
+  parts-written state text last size n counted e f =
       let l : length (text ++ last) ≡ size = length-append text last ∙ sym counted in
-      rw (l, le-ltb _ _ h, e) f
+      rw (l, e) f
 
-pub content-written : (address command : ℕ) (c : Content) (text : List ℕ) (bit7 : Bool) (room : List ℕ) {state : ℕ} → state ≡ stateOf c bit7
-    → (payload : List ℕ) → payload ≡ dataOf c text → {o : Answered ℕ × List ℕ}
-    → o ≡ toLay payload (frameOf (bodyOf address command state payload)) room
-    → o ≡ toLay (dataOf c text) (frameFor address command c text bit7) room
-unfolding frameFor
-content-written address command c text bit7 room is payload e f = rw (← is, ← e) f
+  pub content-written : (c : Content) (text : List ℕ) (bit7 : Bool) {state : ℕ} → state ≡ stateOf c bit7
+      → (payload : List ℕ) → payload ≡ dataOf c text → {o : Answered ℕ × List ℕ} → o ≡ writeFrame (bodyOf address command state payload) room
+      → o ≡ emit (frameFor address command c text bit7) room
+  unfolding frameFor
+  content-written c text bit7 is payload e f = rw (← is, ← e) f
 
 -- what taking apart shows
 taken-suits : (q : Request) (r : Reply) (c : Content) → served c ≡ Take q r → (suits q r ≡ true) × (contentOf r ≡ c)
@@ -111,7 +108,7 @@ module _ (address : ℕ) (q : Request) (r : Reply) (text : List ℕ) (bit7 : Boo
             float-13 h = rw (ne-eqb _ _ one, suit .0, suit .1, ← range, in-range, ← words, good-text, ← float, h) at rest
 
             pub reply-laid : z ≡ false → {at-row : Row} → at-row ≡ row q → {o : Answered ℕ × List ℕ}
-                → o ≡ toLay (dataOf known text) (frameFor address (at-row .command) known text bit7) room → o ≡ writeReply address q r text bit7 room
+                → o ≡ emit (frameFor address (at-row .command) known text bit7) room → o ≡ writeReply address q r text bit7 room
             reply-laid h e f =
-                f ∙ ap (λ (k : Row). toLay (dataOf known text) (frameFor address (k .command) known text bit7) room) e
+                f ∙ ap (λ (k : Row). emit (frameFor address (k .command) known text bit7) room) e
                 ∙ (rw (ne-eqb _ _ one, suit .0, suit .1, ← range, in-range, ← words, good-text, ← float, h) at rest)

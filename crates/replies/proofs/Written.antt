@@ -9,7 +9,7 @@ use native.Mathlib.Omega.{arith}
 use lib.Dec.{eqb, ltb, leb}
 use lib.ListN.{length, getD, take, drop, length-append}
 use lib.Seq.{take-at, take-append-seam}
-use borrow.Author.Tests.{eq-eqb, ne-eqb, le-ltb, le-leb, lt-leb, ltb-false, eqb-true, eqb-false, not-false}
+use borrow.Author.Tests.{eq-eqb, ne-eqb, le-leb, lt-leb, eqb-true, eqb-false, not-false}
 use Rattle.refusal.specs.Refusals.{Numbered, number, _carrying_, Answered, served, refused, inOrder}
 use Rattle.refusal.specs.Room.{overlay, emit, lay}
 use Rattle.refusal.proofs.Order.{passed}
@@ -38,6 +38,7 @@ use Rattle.replies.specs.Writer.{badText, dataOf, codeOf, stateOf, bodyO
 use Rattle.replies.specs.Reader.{codeIn, bit7In, lengthIn, dataIn, sizeOf, isSize, foreign, Got, gotBy, valueChecks, withBit7, readReply}
 use Rattle.replies.specs.ReadBack.{Fits, comesBack}
 use Rattle.replies.proofs.Carried.{or-false, code-fits}
+use Rattle.replies.proofs.Accepted.{data-short}
 use Rattle.replies.proofs.Writing.{frame}
 use Rattle.replies.proofs.Answers.{ofData, reply-15, data-read}
 use Rattle.replies.proofs.Kept.{back}
@@ -58,7 +59,6 @@ pub record Accepted (address : ℕ) (q : Request) (r : Reply) (words : List ℕ)
   pub in-range : outOfRange (contentOf r) ≡ false
   pub good-text : badText (contentOf r) words ≡ false
   pub good-float : badFloat (contentOf r) ≡ false
-  pub short : length (dataOf (contentOf r) words) ≤ 255
 
 module _ (address : ℕ) (q : Request) (r : Reply) (words : List ℕ) (bit7 : Bool) where
   pub accepted : {f : List ℕ} → frameToWrite address q r words bit7 ≡ served f → Accepted address q r words × (frame address q r words bit7 ≡ f)
@@ -67,13 +67,11 @@ module _ (address : ℕ) (q : Request) (r : Reply) (words : List ℕ) (bit7 : Bo
       let p = both-pass {A = ℕ × Request} (address, q) (frame address q r words bit7) (requestChecks address q) (writeChecks address q r words) h in
       let c = contentOf r in
       let end : Answered (List ℕ) = served (frame address q r words bit7) in
-      let five : Answered (List ℕ) = cond (ltb 255 (length (dataOf c words))) (refused (number 5)) end in
-      let thirteen : Answered (List ℕ) = cond (badFloat c) (refused (number 13)) five in
+      let thirteen : Answered (List ℕ) = cond (badFloat c) (refused (number 13)) end in
       let twelve : Answered (List ℕ) = cond (outOfRange c || badText c words) (refused (number 12)) thirteen in
       let k = passed (eqb address 255 || not (suits q r)) (number 14) twelve f (p .1) in
       let l = passed (outOfRange c || badText c words) (number 12) thirteen f (k .1) in
-      let m = passed (badFloat c) (number 13) five f (l .1) in
-      let n = passed (ltb 255 (length (dataOf c words))) (number 5) end f (m .1) in
+      let m = passed (badFloat c) (number 13) end f (l .1) in
       let o = or-false (eqb address 255) (not (suits q r)) (k .0) in
       let s = or-false (outOfRange c) (badText c words) (l .0) in (
         record {
@@ -83,7 +81,6 @@ module _ (address : ℕ) (q : Request) (r : Reply) (words : List ℕ) (bit7 : Bo
           in-range = s .0;
           good-text = s .1;
           good-float = m .0;
-          short = ltb-false _ _ (n .0);
         },
         serves-it (requestChecks address q ++ writeChecks address q r words) (frame address q r words bit7) h,
       )
@@ -93,7 +90,7 @@ module _ (address : ℕ) (q : Request) (r : Reply) (words : List ℕ) (bit7 : Bo
   unfolding frameToWrite checkRequest
   to-write a =
       then-more (address, q) (frame address q r words bit7) (writeChecks address q r words) (requestChecks address q) (a .request-good)
-      ∙ rw (a .one, a .suit, a .in-range, a .good-text, a .good-float, le-ltb _ _ (a .short))
+      ∙ rw (a .one, a .suit, a .in-range, a .good-text, a .good-float)
 
 -- a writer that succeeds left its frame at the start of the room
 pub emitted : (f room after : List ℕ) (n : ℕ) → emit f room ≡ (served n, after) → take n after ≡ f
@@ -180,7 +177,7 @@ module _ (address : ℕ) (q : Request) (r : Reply) (words : List ℕ) (bit7 : Bo
 
   pub good : checkBody kind.Reply body ≡ served body
   unfolding bodyOf
-  good = good-body kind.Reply (address ∷ row q .command ∷ state ∷ []) payload refl (a .short)
+  good = good-body kind.Reply (address ∷ row q .command ∷ state ∷ []) payload refl (data-short (contentOf r) words (a .good-text))
 
   pub data-there : dataIn body ≡ payload
   unfolding bodyOf dataIn

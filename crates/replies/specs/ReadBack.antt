@@ -8,9 +8,9 @@ use mathlib.Core.Option.{some}
 use lib.Dec.{T, ltb, eqb}
 use lib.ListN.{length, take, drop}
 use lib.Ieee.{binary32, fits}
-use Rattle.refusal.specs.Refusals.{number, _carrying_, Answered, served, refused}
+use Rattle.refusal.specs.Refusals.{number, _carrying_, Answered, served, refused, inOrder}
 use Rattle.refusal.specs.Room.{emit}
-use Rattle.refusal.specs.Order.{Decides}
+use Rattle.refusal.specs.Order.{Passed, Decides}
 use Rattle.shdlc.specs.declared.Kind.the-variants as kind
 use Rattle.shdlc.specs.Frame.{withChecksum}
 use Rattle.shdlc.specs.ReadBack.{closed}
@@ -29,7 +29,7 @@ use Rattle.replies.specs.declared.Reply.the-variants.{ProductType, Devic
 use Rattle.replies.specs.declared.Content.{Content}
 use Rattle.replies.specs.declared.Content.the-variants.{Nothing, Float, U16, U32, Validity, Address, Baud, Text, Error}
 use Rattle.replies.specs.Replies.{contentOf}
-use Rattle.replies.specs.Writer.{bodyOf, replyChecks, frameFor, writeReply}
+use Rattle.replies.specs.Writer.{dataOf, bodyOf, frameFor, writeChecks, frameToWrite, writeReply}
 use Rattle.replies.specs.Reader.{dataIn, textIn, Got, value, text, readReply}
 
 -- what every value of the code's types has: a number fits it, and a float is one of single precision
@@ -139,9 +139,16 @@ pub record ReadBack : Type 0 where
   pub validity-read : (address index b : ℕ) (bit7 : Bool) → (address ≡ 255 → ⊥)
       → readReply address (ask.Validity index) (withChecksum (bodyOf address 0x40 (cond bit7 0x80 0) (b ∷ [])))
       ≡ (served (value (say.Validity (not (eqb b 0)))), some bit7)
-  -- when the writer gives each of its answers: the request's own 12, 13, 10, then 14, 12, 13 in their order, then 1; 5 never
+  -- when the writer gives each of its answers: the request's own 12, 13, 10, then 14, 12, 13 in their order, then 1
   pub decides : (address : ℕ) (request : Request) (reply : Reply) (words : List ℕ) (bit7 : Bool) (room : List ℕ)
-      → Decides (requestChecks address request ++ replyChecks address request reply words)
+      → Decides (requestChecks address request ++ writeChecks address request reply words)
       (frameFor address (row request .command) (contentOf reply) words bit7) room (writeReply address request reply words bit7 room .0)
-  pub never-5 : (address : ℕ) (request : Request) (reply : Reply) (words : List ℕ) (bit7 : Bool) (room : List ℕ)
-      → writeReply address request reply words bit7 room .0 ≡ refused (number 5) → ⊥
+  -- 02 (xi), "the longest reply is 254 of text and its 00": one that none of 14, 12, 13 refuses has at most 255 data bytes, so L is one
+  -- byte,
+  pub at-most-255 : (address : ℕ) (request : Request) (reply : Reply) (words : List ℕ) → Passed (writeChecks address request reply words)
+      → length (dataOf (contentOf reply) words) ≤ 255
+  -- and "refusal 5 never arises when writing": 01's test of 5, "for data over 255 bytes", at its place in the order changes no answer
+  pub never-5 : (address : ℕ) (request : Request) (reply : Reply) (words : List ℕ) (bit7 : Bool)
+      → inOrder (requestChecks address request ++ (writeChecks address request reply words ++ ((ltb 255 (length (dataOf (contentOf reply) words)), number 5) ∷ [])))
+      (frameFor address (row request .command) (contentOf reply) words bit7)
+      ≡ frameToWrite address request reply words bit7

@@ -65,18 +65,14 @@ bodyOf address command state payload = address ∷ command ∷ state ∷ length 
 unfoldable pub frameFor : ℕ → ℕ → Content → List ℕ → Bool → List ℕ
 frameFor address command content text bit7 = frameOf (bodyOf address command (stateOf content bit7) (dataOf content text))
 
--- 01, Refusal numbers, "Order": the request's own 12, 13, 10; "writing one with 14, 12, 13, 5, 1". "any other kind offered to a
--- writer is 14, as is any reply to 255". "Number 5 is tested in both writers, for data over 255 bytes."
-abbrev pub replyChecks : ℕ → Request → Reply → List ℕ → List (Bool × Numbered)
-replyChecks address request reply text =
+-- 01, Refusal numbers, "Order": the request's own 12, 13, 10, then 14, 12, 13, 1. "any other kind offered to a writer is 14, as is any
+-- reply to 255". 02 (xi): "Number 5 stays for reading. The writers' orders lose it."
+abbrev pub writeChecks : ℕ → Request → Reply → List ℕ → List (Bool × Numbered)
+writeChecks address request reply text =
     (eqb address 255 || not (suits request reply), number 14)
     ∷ (outOfRange (contentOf reply) || badText (contentOf reply) text, number 12)
     ∷ (badFloat (contentOf reply), number 13)
     ∷ []
-
-abbrev pub writeChecks : ℕ → Request → Reply → List ℕ → List (Bool × Numbered)
-writeChecks address request reply text =
-    replyChecks address request reply text ++ ((ltb 255 (length (dataOf (contentOf reply) text)), number 5) ∷ [])
 
 -- the frame of a reply that is not refused
 unfoldable pub frameToWrite : ℕ → Request → Reply → List ℕ → Bool → Answered (List ℕ)

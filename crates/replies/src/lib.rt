@@ -15,11 +15,10 @@ ghost use mathlib.Core.Path.{_≡_};
 ghost use mathlib.Core.Bool.{true, false, cond, not};
 ghost use mathlib.Core.List.{[], _∷_, _++_, foldr};
 ghost use Prim.Native.Nat.{_+_, _-_, _^_, _≤_, _<_, min};
-ghost use lib.Dec.{ltb};
-ghost use lib.ListN.{length, take, drop};
+ghost use lib.ListN.{length, take};
 ghost use Rattle.refusal.specs.Refusals.{number, inOrder};
-ghost use Rattle.refusal.specs.Room.{lay};
-ghost use Rattle.shdlc.specs.Frame.{frameOf};
+ghost use Rattle.refusal.specs.Room.{emit};
+ghost use Rattle.shdlc.specs.Frame.{writeFrame};
 ghost use Rattle.shdlc.specs.Paper.{paperWritten};
 ghost use Rattle.payload.specs.Field.{big, bigEndian, bytesIn};
 ghost use Rattle.sfc6.specs.Commands.{row};
@@ -389,7 +388,7 @@ fn state_of(content: Content, bit7: bool) -> u8
     code + high(bit7)
 }
 
-// Writes the frame of a reply whose data are a text, which may be empty, and what follows it: 5 and 1.
+// Writes the frame of a reply whose data are a text, which may be empty, and what follows it. Their number is L, one byte.
 fn write_parts(
     address: u8,
     command: u8,
@@ -398,17 +397,15 @@ fn write_parts(
     last: &[u8],
     out: &mut [u8],
 ) -> Written
-    ensures { λ r. ⌜ (paperWritten r, now (out .exit)) ≡ lay (inOrder ((ltb 255 (length (now (text .entry) ++ now (last .entry))), number 5) ∷ []) (frameOf (bodyOf address command state (now (text .entry) ++ now (last .entry))))) (now (out .entry)) ⌝ }
+    requires { ⌜ length (now text) + length (now last) ≤ 255 ⌝ }
+    ensures { λ r. ⌜ (paperWritten r, now (out .exit)) ≡ writeFrame (bodyOf address command state (now (text .entry) ++ now (last .entry))) (now (out .entry)) ⌝ }
 {
     let size = text.len() + last.len();
-    if 255 < size {
-        return Written::Refused(Refusal::BodyTooLong);
-    }
     let head = [address, command, state, size as u8];
     shdlc::written_of(shdlc::lay_parts(&head, text, last, out))
 }
 
-// Writes the frame of what a reply carries: 5 and 1.
+// Writes the frame of what a reply carries, none of which is refused: its data are at most 255 bytes.
 fn write_content(
     address: u8,
     command: u8,
@@ -417,8 +414,8 @@ fn write_content(
     bit7: bool,
     out: &mut [u8],
 ) -> Written
-    requires { ⌜ outOfRange content ≡ false ⌝ }
-    ensures { λ r. ⌜ (paperWritten r, now (out .exit)) ≡ lay (inOrder ((ltb 255 (length (dataOf content (now (text .entry)))), number 5) ∷ []) (frameFor address command content (now (text .entry)) bit7)) (now (out .entry)) ⌝ }
+    requires { ⌜ (outOfRange content ≡ false) × (badText content (now text) ≡ false) ⌝ }
+    ensures { λ r. ⌜ (paperWritten r, now (out .exit)) ≡ emit (frameFor address command content (now (text .entry)) bit7) (now (out .entry)) ⌝ }
 {
     let state = state_of(content, bit7);
     let mut rest = [0u8; 4];
@@ -429,8 +426,8 @@ fn write_content(
     write_parts(address, command, state, &text[..0], &rest[..end], out)
 }
 
-// Writes the frame of the reply to a request at the start of the lent room. The text is that of a product type; beside any other
-// reply it is not looked at. `bit7` is bit 7 of the state.
+// Writes the frame of the reply to a request at the start of the lent room: the request's own 12, 13, 10, then 14, 12, 13, 1. The text is
+// that of a product type; beside any other reply it is not looked at. `bit7` is bit 7 of the state.
 pub fn write_reply(
     address: u8,
     request: Request,

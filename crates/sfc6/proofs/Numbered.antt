@@ -26,16 +26,7 @@ use Rattle.sfc6.proofs.Order.{never, first-refuses}
 use Rattle.sfc6.proofs.Checks.{passed-request}
 use Rattle.sfc6.proofs.Laid.{bodyAt}
 use Rattle.sfc6.proofs.Rewritten.{numbered-body}
-use Rattle.sfc6.proofs.Writing.{Says, five, write-refused, write-laid}
-use Rattle.sfc6.proofs.Written.{to-write}
-
--- what the request's own checks answer is what the writer's do: 5 is never given
-frame-by-check : (address : ℕ) (request : Request) (c : Checked) → Says address request c
-    → paperPassed (frameOf (bodyOf address (row request))) c ≡ frameToWrite address request
-unfolding checkRequest frameToWrite
-frame-by-check address request Good is = sym (to-write address request (sym is))
-frame-by-check address request (Refused why) is =
-    sym (first-refuses (address, request) (frameOf (bodyOf address (row request))) (five (row request)) (requestChecks address request) (sym is))
+use Rattle.sfc6.proofs.Writing.{Says, frame-by-check, write-refused, write-laid}
 
 -- ---- the request of a number
 module _ (place n : ℕ) where
@@ -92,7 +83,7 @@ pub write-stopped : (address : ℕ) (request : Request) (room : List ℕ) (m : N
 unfolding writeRequest frameToWrite checkRequest
 write-stopped address request room m h =
     ap (λ (a : Answered (List ℕ)). lay a room)
-    (first-refuses (address, request) (frameOf (bodyOf address (row request))) (five (row request)) (requestChecks address request) h)
+    (first-refuses (address, request) (frameOf (bodyOf address (row request))) [] (requestChecks address request) h)
 
 -- ---- its frame
 module _ (address place n : ℕ) where

@@ -9,7 +9,6 @@ use Rattle.shdlc.specs.Checksum.{sum}
 use Rattle.shdlc.specs.Stuffing.{stuffByte}
 use Rattle.sfc6.specs.declared.Request.{Request}
 use Rattle.sfc6.specs.declared.Request.the-variants.{GetSetpoint, SetSetpoint, MeasuredValue, GetGain, SetGain, GetInitStep, SetInitStep, RawFlow, RawConductivity, Temperature, NumberOfCalibrations, Validity, FullScale, GetCalibration, SetCalibration, VolatileCalibration, GetAddress, SetAddress, GetBaud, SetBaud, ProductType}
-use Rattle.sfc6.specs.declared.Row.{Row}
 use Rattle.sfc6.specs.declared.Value.{Value}
 use Rattle.sfc6.specs.declared.Value.the-variants as value
 use Rattle.sfc6.specs.Commands.{row, placeOf, valueIn, valueOf}
@@ -90,7 +89,7 @@ at-number address m GetBaud = refl
 at-number address m (SetBaud n) = refl
 at-number address m ProductType = refl
 
-pub request-body : (address : ℕ) (q : Request) {place n : ℕ} {asked : Row} → place ≡ placeOf q → n ≡ valueOf q → asked ≡ row q
-    → bodyAt address place n ≡ bodyOf address asked
+pub request-body : (address : ℕ) (q : Request) {place n : ℕ} → place ≡ placeOf q → n ≡ valueOf q
+    → bodyAt address place n ≡ bodyOf address (row q)
 unfolding bodyOf dataOf valueOf
-request-body address q e f g = rw (e, f, g) (at-number address (valueOf q) q ∙ rw (← value-bytes (row q .value)))
+request-body address q e f = rw (e, f) (at-number address (valueOf q) q ∙ rw (← value-bytes (row q .value)))

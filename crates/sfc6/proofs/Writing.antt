@@ -1,17 +1,17 @@
 -- Writing a request: each answer of the definition, from the tests that lead to it. Assumes nothing.
 use mathlib.Core.Path.{_≡_, refl, sym, ap, subst, _∙_}
 use mathlib.Core.Bool.{Bool, true, false, cond, not}
-use mathlib.Core.List.{List, [], _∷_, _++_, append-nil}
+use mathlib.Core.List.{List, [], _++_, append-nil}
 use Prim.Native.Nat.{ℕ, _-_, _^_, _≤_, _<_, min}
 use native.Mathlib.Omega.{arith}
-use borrow.Author.Tests.{lt-ltb, le-ltb, ltb-true, ltb-false, ne-eqb}
+use borrow.Author.Tests.{ltb-true, ltb-false, ne-eqb}
 use lib.Dec.{ltb, eqb}
 use lib.Ieee.{binary32, toBits, ofBits}
-use lib.ListN.{length, take, drop, length-drop, drop-of-length-le, take-append-drop}
+use lib.ListN.{length, take, drop, length-drop, drop-of-length-le}
 use lib.Seq.{take-all, take-length, drop-length}
 use Rattle.refusal.specs.declared.Refusal.{Refusal}
 use Rattle.refusal.specs.declared.Refusal.the-variants.{OutOfRange, BadFloat, AddressBroadcast}
-use Rattle.refusal.specs.Refusals.{Numbered, Answered, number, served, refused, paper, inOrder}
+use Rattle.refusal.specs.Refusals.{Answered, number, served, refused, paper}
 use Rattle.refusal.specs.Room.{overlay, emit}
 use Rattle.refusal.proofs.Room.{take-overlay, emit-served, emit-refused}
 use Rattle.shdlc.specs.declared.Checked.{Checked}
@@ -21,49 +21,24 @@ use Rattle.shdlc.specs.Paper.{writtenOf}
 use Rattle.shdlc.proofs.Frame.{frame-length}
 use Rattle.sfc6.specs.declared.Request.{Request}
 use Rattle.sfc6.specs.declared.Request.the-variants.{ProductType}
-use Rattle.sfc6.specs.declared.Row.{Row}
-use Rattle.sfc6.specs.Commands.{row, requestAt, finite, member, bauds, outOfRange, badFloat}
-use Rattle.sfc6.specs.Requests.{requestChecks, checkRequest, dataOf, bodyOf, frameToWrite, writeRequest}
+use Rattle.sfc6.specs.Commands.{row, requestAt, finite, member, bauds}
+use Rattle.sfc6.specs.Requests.{requestChecks, checkRequest, bodyOf, frameToWrite, writeRequest}
 use Rattle.sfc6.specs.Rounds.{from}
 use Rattle.sfc6.specs.Paper.{paperPassed}
-use Rattle.sfc6.proofs.Checks.{passed-value}
 use Rattle.sfc6.proofs.Floats.{nan-or-not}
 use Rattle.sfc6.proofs.Table.{NoneBelow, request-last}
 use Rattle.sfc6.proofs.Order.{never, first-refuses, then-more}
 
--- the test of the data's length
-abbrev pub five : Row → List (Bool × Numbered)
-five r = (ltb 255 (length (dataOf r)), number 5) ∷ []
+-- what the request's own checks answer is what the writer's do
+pub frame-by-check : (address : ℕ) (request : Request) (c : Checked) → paperPassed (address, request) c ≡ checkRequest address request
+    → paperPassed (frameOf (bodyOf address (row request))) c ≡ frameToWrite address request
+unfolding checkRequest frameToWrite
+frame-by-check address request Good is =
+    sym (then-more (address, request) (frameOf (bodyOf address (row request))) [] (requestChecks address request) (sym is))
+frame-by-check address request (Refused why) is =
+    sym (first-refuses (address, request) (frameOf (bodyOf address (row request))) [] (requestChecks address request) (sym is))
 
--- what is refused before the room is looked at, of any request of the row
-module _ (address : ℕ) (r : Row) (c : Checked)
-    (is : (request : Request) → row request .value ≡ r .value → paperPassed (address, request) c ≡ checkRequest address request) where
-  module _ (request : Request) (at-row : row request ≡ r) where
-    checked : paperPassed (address, request) c ≡ checkRequest address request
-    checked = is request (ap (λ (x : Row). x .value) at-row)
-
-    -- only 5 and 1 are left
-    rest : c ≡ Good → frameToWrite address request ≡ inOrder (five r) (frameOf (bodyOf address r))
-    unfolding frameToWrite checkRequest
-    rest good =
-        then-more (address, request) (frameOf (bodyOf address (row request))) (five (row request)) (requestChecks address request)
-        (sym checked ∙ ap (paperPassed (address, request)) good)
-        ∙ rw at-row
-
-  pub row-refused : {why : Refusal} → c ≡ Refused why → (request : Request) → row request ≡ r → refused (paper why) ≡ frameToWrite address request
-  unfolding frameToWrite checkRequest
-  row-refused e request at-row =
-      sym (first-refuses (address, request) (frameOf (bodyOf address (row request))) (five (row request)) (requestChecks address request)
-      (sym (checked request at-row) ∙ ap (paperPassed (address, request)) e))
-
-  module _ (good : c ≡ Good) {size : ℕ} (counted : size ≡ length (dataOf r)) where
-    pub row-long : 255 < size → (request : Request) → row request ≡ r → refused (number 5) ≡ frameToWrite address request
-    row-long h request at-row = rw (rest request at-row good, ← counted, lt-ltb _ _ h)
-
-    pub row-good : size ≤ 255 → (request : Request) → row request ≡ r → served (frameOf (bodyOf address r)) ≡ frameToWrite address request
-    row-good h request at-row = rw (rest request at-row good, ← counted, le-ltb _ _ h)
-
--- the same of the request at a place: what a check answers is what the definition says of it
+-- of the request at a place: what a check answers is what the definition says of it
 module _ (address : ℕ) where
   abbrev pub Says : Request → Checked → Type 0
   Says request c = paperPassed (address, request) c ≡ checkRequest address request

@@ -9,7 +9,6 @@ use lib.ListN.{length, take, length-append}
 use lib.Seq.{take-at}
 use lib.Ieee.{Float, binary32, fits, toBits, ofBits}
 use lib.Ieee.Bits.{ofBits-toBits, toBits-lt}
-use borrow.Author.Tests.{le-ltb}
 use Rattle.refusal.specs.Refusals.{Answered, number, served}
 use Rattle.refusal.specs.Room.{emit, lay}
 use Rattle.refusal.proofs.Room.{take-overlay}
@@ -31,7 +30,7 @@ use Rattle.sfc6.specs.Reading.{startsWith, named, fitting, first, carrie
 use Rattle.sfc6.specs.ReadBack.{Fits}
 use Rattle.sfc6.proofs.Order.{never, first-refuses, then-more, passes-or-refuses}
 use Rattle.sfc6.proofs.Laid.{data-short}
-use Rattle.sfc6.proofs.Writing.{five, emit-laid}
+use Rattle.sfc6.proofs.Writing.{emit-laid}
 
 -- a number of so many bytes, and a float, that are written and read
 long : (n : ℕ) → n < 2 ^ 32 → big (bigEndian 4 n) ≡ n
@@ -95,8 +94,7 @@ module _ (address : ℕ) (request : Request) where
   -- what is not refused is this frame
   pub to-write : checkRequest address request ≡ served (address, request) → frameToWrite address request ≡ served (frameOf body)
   unfolding checkRequest frameToWrite
-  to-write h =
-      then-more (address, request) (frameOf body) (five r) (requestChecks address request) h ∙ rw (le-ltb 255 (length (dataOf r)) short)
+  to-write h = then-more (address, request) (frameOf body) [] (requestChecks address request) h
 
   -- a writer that succeeds was not refused, and the room starts with the frame
   module _ (room after : List ℕ) (n : ℕ) where
@@ -112,7 +110,7 @@ module _ (address : ℕ) (request : Request) where
         ⊎-elim
         (λ passed. (passed, laid (sym (ap (λ (a : Answered (List ℕ)). lay a room) (to-write passed)) ∙ h)))
         (λ stopped.
-        let e = first-refuses (address, request) (frameOf body) (five r) (requestChecks address request) (stopped .1) in
+        let e = first-refuses (address, request) (frameOf body) [] (requestChecks address request) (stopped .1) in
         never (sym (ap (λ (a : Answered (List ℕ)). lay a room .0) (sym e) ∙ ap (λ (o : Answered ℕ × List ℕ). o .0) h)))
         (passes-or-refuses (requestChecks address request) (address, request))
 

@@ -3,10 +3,10 @@
 use Prim.Native.Nat.{ℕ, _+_, _^_, _≤_, _<_}
 use mathlib.Core.Path.{_≡_}
 use mathlib.Core.List.{List, [], _∷_, _++_, map}
-use lib.Dec.{T}
+use lib.Dec.{T, ltb}
 use lib.ListN.{length, take}
 use lib.Ieee.{binary32, fits}
-use Rattle.refusal.specs.Refusals.{number, Answered, served, refused}
+use Rattle.refusal.specs.Refusals.{number, Answered, served, inOrder}
 use Rattle.refusal.specs.Room.{overlay, emit}
 use Rattle.refusal.specs.Order.{Decides}
 use Rattle.shdlc.specs.declared.Kind.{Kind}
@@ -19,7 +19,7 @@ use Rattle.sfc6.specs.declared.Request.{Request}
 use Rattle.sfc6.specs.declared.Value.{Value}
 use Rattle.sfc6.specs.declared.Value.the-variants.{Nothing, Float, U32, Address, Baud}
 use Rattle.sfc6.specs.Commands.{row, requestAt, placeOf, valueOf}
-use Rattle.sfc6.specs.Requests.{requestChecks, bodyOf, writeRequest}
+use Rattle.sfc6.specs.Requests.{requestChecks, dataOf, bodyOf, frameToWrite, writeRequest}
 use Rattle.sfc6.specs.Rounds.{round}
 use Rattle.sfc6.specs.Reading.{readRequest}
 
@@ -66,10 +66,15 @@ pub record ReadBack : Type 0 where
   -- a frame from the wire that is read and written again comes to the same bytes
   pub read-then-written : (stretch body : List ℕ) → Received kind.Request stretch body → (address : ℕ) (request : Request)
       → readRequest body ≡ served (address, request) → (room : List ℕ) → writeRequest address request room ≡ emit (closed stretch) room
-  -- when the writer gives each of its answers: 12, 13, 10 in their order, then 1; 5 never
+  -- when the writer gives each of its answers: 12, 13, 10 in their order, then 1
   pub decides : (address : ℕ) (request : Request) (room : List ℕ)
       → Decides (requestChecks address request) (frameOf (bodyOf address (row request))) room (writeRequest address request room .0)
-  pub never-5 : (address : ℕ) (request : Request) (room : List ℕ) → writeRequest address request room .0 ≡ refused (number 5) → ⊥
+  -- 02 (xi), "The longest request carries 5 data bytes": why L is one byte,
+  pub at-most-5 : (request : Request) → length (dataOf (row request)) ≤ 5
+  -- and why "refusal 5 never arises when writing": 01's test of 5, "for data over 255 bytes", at its place in the order changes no answer
+  pub never-5 : (address : ℕ) (request : Request)
+      → inOrder (requestChecks address request ++ ((ltb 255 (length (dataOf (row request))), number 5) ∷ [])) (frameOf (bodyOf address (row request)))
+      ≡ frameToWrite address request
   -- a request is its number in the table and the number that it carries, by which C writes and reads it
   pub by-number : (request : Request) → Fits (row request .value)
       → (placeOf request ≤ 20) × (requestAt (placeOf request) (valueOf request) ≡ request)

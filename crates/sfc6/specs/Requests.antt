@@ -5,7 +5,7 @@ use mathlib.Core.List.{List, [], _∷_, _++_}
 use lib.Dec.{ltb, eqb}
 use lib.ListN.{length}
 use lib.Ieee.{binary32, toBits}
-use Rattle.refusal.specs.Refusals.{Numbered, number, Answered, served, refused, inOrder}
+use Rattle.refusal.specs.Refusals.{Numbered, number, Answered, refused, inOrder}
 use Rattle.refusal.specs.Room.{lay}
 use Rattle.shdlc.specs.Frame.{frameOf}
 use Rattle.payload.specs.Field.{bigEndian}
@@ -57,11 +57,9 @@ bodyWith address command bytes = address ∷ command ∷ length bytes ∷ bytes
 unfoldable pub bodyOf : ℕ → Row → List ℕ
 bodyOf address r = bodyWith address (r .command) (dataOf r)
 
--- "Order": "writing one 12, 13, 10, 5, 1". "Number 5 is tested in both writers, for data over 255 bytes."
+-- "Order": writing one 12, 13, 10, 1. 02 (xi): "Number 5 stays for reading. The writers' orders lose it."
 unfoldable pub frameToWrite : ℕ → Request → Answered (List ℕ)
-frameToWrite address request =
-    inOrder (requestChecks address request ++ ((ltb 255 (length (dataOf (row request))), number 5) ∷ []))
-    (frameOf (bodyOf address (row request)))
+frameToWrite address request = inOrder (requestChecks address request) (frameOf (bodyOf address (row request)))
 
 -- what the writer of a request answers, and what the lent room then holds
 unfoldable pub writeRequest : ℕ → Request → List ℕ → Answered ℕ × List ℕ

@@ -15,7 +15,7 @@ ghost use lib.ListN.{length, take, drop};
 ghost use lib.Ieee.{binary32, toBits, ofBits};
 ghost use Rattle.sfc6.specs.declared.Request.{Request as Asked};
 ghost use Rattle.sfc6.specs.Commands.{withSub, withoutSub, row, table, requestAt, placeOf, valueOf, bauds, member, finite, outOfRange, badFloat, addressToAll};
-ghost use Rattle.sfc6.specs.Requests.{checkRequest, numbered, subBytes, valueBytes, dataOf, bodyWith, bodyOf, frameToWrite, writeRequest, writeNumbered};
+ghost use Rattle.sfc6.specs.Requests.{checkRequest, numbered, subBytes, valueBytes, dataOf, bodyWith, writeRequest, writeNumbered};
 ghost use Rattle.sfc6.specs.Rounds.{appendRequest, appendNumbered, pollRound};
 ghost use Rattle.sfc6.specs.Reading.{startsWith, named, fitting, first, carried, typed, readRequest};
 ghost use Rattle.refusal.specs.Room.{overlay};
@@ -349,21 +349,6 @@ fn data_size(row: Row) -> usize
     sub_size(sub) + value_size(value)
 }
 
-// What is refused of a request before the room is looked at, in its order: 12, 13, 10, 5.
-fn check_row(address: u8, asked: Row) -> Checked
-    ensures { λ r. ⌜ ((request : Asked) → row request ≡ asked → paperPassed (frameOf (bodyOf address asked)) r ≡ frameToWrite address request) ⌝ }
-{
-    let value = asked.value;
-    if let Checked::Refused(r) = check_value(address, value) {
-        return Checked::Refused(r);
-    }
-    // No request of the table has so many data bytes; document 01 asks for the test in both writers.
-    if 255 < data_size(asked) {
-        return Checked::Refused(Refusal::BodyTooLong);
-    }
-    Checked::Good
-}
-
 // The last byte of a number.
 fn low(n: u32) -> u8
     ensures { λ r. ⌜ r ≡ n % 256 ⌝ }
@@ -592,11 +577,11 @@ fn lay_numbered(address: u8, place: usize, n: u32, out: &mut [u8]) -> usize
     end
 }
 
-// Writes the frame of a request at the start of the lent room.
+// Writes the frame of a request at the start of the lent room: 12, 13, 10, 1.
 pub fn write_request(address: u8, request: Request, out: &mut [u8]) -> Written
     ensures { λ r. ⌜ (paperWritten r, now (out .exit)) ≡ writeRequest address request (now (out .entry)) ⌝ }
 {
-    if let Checked::Refused(r) = check_row(address, row_of(request)) {
+    if let Checked::Refused(r) = check_request(address, request) {
         return Written::Refused(r);
     }
     shdlc::written_of(lay_numbered(address, place_of(request), value_of(request), out))
@@ -685,8 +670,7 @@ pub fn request_of(place: usize, n: u32) -> Typed
     Typed::Known(request_at(place, n))
 }
 
-// Writes the frame of a request by its number and the number that it carries: 11 comes first. 5 is not tested, since no request of the
-// table has so many data bytes.
+// Writes the frame of a request by its number and the number that it carries: 11 comes first.
 pub fn write_numbered(address: u8, place: usize, n: u32, out: &mut [u8]) -> Written
     ensures { λ r. ⌜ (paperWritten r, now (out .exit)) ≡ writeNumbered address place n (now (out .entry)) ⌝ }
 {

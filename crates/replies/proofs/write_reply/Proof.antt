@@ -100,7 +100,8 @@ write-reply-spec =
     (λ c κs. search needs)
     returns-6
     (λ c κs. search needs)
-    (λ c κs. let e = c .before .before .before .before .before .before in
-    sym (e .before .out-of-range .ensures) ∙ e .if2 .left)
+    (λ c κs. let f = c .before .before .before .before in
+    let e = f .before .before in
+    (sym (e .before .out-of-range .ensures) ∙ e .if2 .left, sym (f .before .bad-text .ensures) ∙ f .if3 .left))
     (λ c. search needs)
     returns-7)
