@@ -514,6 +514,7 @@ pub fn reply_frame(
         (14, !suits || address == BROADCAST),
         (12, out_of_range(field, reply_value) || bad_text),
         (13, not_for_a_reply(field, reply_value)),
+        // 01's test, which 02 (xi) takes out of the library: it never holds here.
         (5, data.len() > 255),
     ]);
     if refusal != 0 {

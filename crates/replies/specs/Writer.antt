@@ -65,8 +65,8 @@ bodyOf address command state payload = address ∷ command ∷ state ∷ length 
 unfoldable pub frameFor : ℕ → ℕ → Content → List ℕ → Bool → List ℕ
 frameFor address command content text bit7 = frameOf (bodyOf address command (stateOf content bit7) (dataOf content text))
 
--- 01, Refusal numbers, "Order": the request's own 12, 13, 10, then 14, 12, 13, 1. "any other kind offered to a writer is 14, as is any
--- reply to 255". 02 (xi): "Number 5 stays for reading. The writers' orders lose it."
+-- 01, Refusal numbers, "Order", as 02 (xi) leaves it: the request's own 12, 13, 10, then 14, 12, 13, 1. "Number 5 stays for reading. The
+-- writers' orders lose it." 01: "any other kind offered to a writer is 14, as is any reply to 255".
 abbrev pub writeChecks : ℕ → Request → Reply → List ℕ → List (Bool × Numbered)
 writeChecks address request reply text =
     (eqb address 255 || not (suits request reply), number 14)

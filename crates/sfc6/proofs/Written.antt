@@ -9,7 +9,7 @@ use lib.ListN.{length, take, length-append}
 use lib.Seq.{take-at}
 use lib.Ieee.{Float, binary32, fits, toBits, ofBits}
 use lib.Ieee.Bits.{ofBits-toBits, toBits-lt}
-use Rattle.refusal.specs.Refusals.{Answered, number, served}
+use Rattle.refusal.specs.Refusals.{Answered, served}
 use Rattle.refusal.specs.Room.{emit, lay}
 use Rattle.refusal.proofs.Room.{take-overlay}
 use Rattle.shdlc.specs.declared.Kind.the-variants as kind
@@ -24,7 +24,7 @@ use Rattle.payload.proofs.Big.{big-of-big-endian}
 use Rattle.sfc6.specs.declared.Request.{Request}
 use Rattle.sfc6.specs.declared.Request.the-variants.{GetSetpoint, SetSetpoint, MeasuredValue, GetGain, SetGain, GetInitStep, SetInitStep, RawFlow, RawConductivity, Temperature, NumberOfCalibrations, Validity, FullScale, GetCalibration, SetCalibration, VolatileCalibration, GetAddress, SetAddress, GetBaud, SetBaud, ProductType}
 use Rattle.sfc6.specs.declared.Row.{Row}
-use Rattle.sfc6.specs.Commands.{row, table}
+use Rattle.sfc6.specs.Commands.{row}
 use Rattle.sfc6.specs.Requests.{requestChecks, checkRequest, dataOf, bodyOf, frameToWrite, writeRequest}
 use Rattle.sfc6.specs.Reading.{startsWith, named, fitting, first, carried, typed, payloadOf, readRequest}
 use Rattle.sfc6.specs.ReadBack.{Fits}

@@ -57,7 +57,7 @@ bodyWith address command bytes = address ∷ command ∷ length bytes ∷ bytes
 unfoldable pub bodyOf : ℕ → Row → List ℕ
 bodyOf address r = bodyWith address (r .command) (dataOf r)
 
--- "Order": writing one 12, 13, 10, 1. 02 (xi): "Number 5 stays for reading. The writers' orders lose it."
+-- "Order", as 02 (xi) leaves it: writing one 12, 13, 10, 1. "Number 5 stays for reading. The writers' orders lose it."
 unfoldable pub frameToWrite : ℕ → Request → Answered (List ℕ)
 frameToWrite address request = inOrder (requestChecks address request) (frameOf (bodyOf address (row request)))
 
