@@ -80,9 +80,9 @@ enum {
     /* receiver record outside its ranges; a board's table with an entry out of range, or with a
      * node and kind twice. */
     MFC_REFUSAL_BAD_RECORD = 2,
-    /* 7D not followed by 5E, 5D, 31 or 33, or last in the stretch. */
+    /* 7D not followed by 5E, 5D, 31 or 33, or last in the stretch; the place of the 7D there. */
     MFC_REFUSAL_BAD_ESCAPE = 3,
-    /* 11 or 13 not after a 7D. */
+    /* 11 or 13 not after a 7D; its place in the stretch, as received. */
     MFC_REFUSAL_BARE_CONTROL = 4,
     /* body over 259 (request) or 260 (reply). */
     MFC_REFUSAL_BODY_TOO_LONG = 5,
@@ -260,6 +260,10 @@ typedef struct {
 typedef struct {
     /* The refusal's number, 0 for none. */
     uint8_t refusal;
+    /* With refusals 3 and 4 the place of the wrong byte, the 7D or the bare byte, counted from
+     * 0 after the 7E that opened its stretch, in the bytes as received; 65,535 for later ones
+     * too. With every other answer 0. */
+    uint16_t place;
     /* The length of the body that stands at the start of the lent frame. */
     size_t frame_length;
     /* The bytes taken from the piece. */
@@ -375,9 +379,9 @@ uint8_t mfc_receiver_fresh(uint8_t kind, uint8_t *record, size_t size);
  * rest again. A frame's unstuffed body stands at the start of frame; else frame is untouched.
  * Refusals, in their order: 2 where size is under MFC_RECORD_SIZE or a field of the record is
  * out of its range; 1 where room is under MFC_FRAME_ROOM; else those of the bytes up to a 7E
- * that are no frame: 3 for a wrong escape, 4 for a bare 11 or 13 hex, then 5 to 8 of the body
- * (too long, too short, L wrong, checksum wrong). With 2 and 1 nothing is taken: the same call
- * again is refused again. */
+ * that are no frame: 3 for a wrong escape or 4 for a bare 11 or 13 hex, whichever comes first,
+ * with its place; then 5 to 8 of the body (too long, too short, L wrong, checksum wrong). With
+ * 2 and 1 nothing is taken: the same call again is refused again. */
 mfc_fed mfc_feed(uint8_t *record, size_t size, const uint8_t *piece, size_t n,
                  uint8_t *frame, size_t room);
 

@@ -3,7 +3,7 @@ use mathlib.Core.Path.{refl}
 use lib.Ieee.{ofInt, ofBits, toBits}
 use Rattle.refusal.specs.Room.{overlay, emit}
 use Rattle.shdlc.specs.Checksum.{sum, checksumOf}
-use Rattle.shdlc.specs.Stuffing.{stuffByte, stuff, prepend, unstuff, unstuffEscaped}
+use Rattle.shdlc.specs.Stuffing.{stuffByte, stuff, prepend, unstuffFrom, unstuffEscaped}
 use Rattle.shdlc.specs.Body.{checkBody}
 use Rattle.shdlc.specs.Frame.{frameOf}
 use Rattle.shdlc.specs.Stream.{judgeBody, judge, nextByte, next, gain, itemsFrom, items}
@@ -26,7 +26,7 @@ a and b = (a, b)
 
 pub examples : Every rows
 unfolding overlay emit
-    sum checksumOf stuffByte stuff prepend unstuff unstuffEscaped checkBody frameOf
+    sum checksumOf stuffByte stuff prepend unstuffFrom unstuffEscaped checkBody frameOf
     judgeBody judge nextByte next gain itemsFrom items
     big bigEndian row dataOf requestBody frameToWrite writeRequest
     checkRequest startsWith named fitting first carried typed readRequest

@@ -44,10 +44,14 @@ digits-of (suc k) n h = go (ltb n 10) refl (digits-of k (n / 10) (omega arith))
     go true e fewer = rw (decimal-digit n (ltb-true _ _ e)) (omega arith)
     go false e fewer = rw (decimal-more n (ltb-false _ _ e), length-append) (omega arith)
 
--- a byte has three digits at most, a u32 ten
+-- a byte has three digits at most, a u16 five, a u32 ten
 pub field-byte : (n after : ℕ) → n < 256 → length (field n after) ≤ 4
 unfolding field tens
 field-byte n after h = rw length-append (omega (arith, digits-of 2 n (omega arith)))
+
+pub field-u16 : (n after : ℕ) → n < 65536 → length (field n after) ≤ 6
+unfolding field tens
+field-u16 n after h = rw length-append (omega (arith, digits-of 4 n (omega arith)))
 
 pub field-u32 : (n after : ℕ) → n < 2 ^ 32 → length (field n after) ≤ 11
 unfolding field tens

@@ -6,7 +6,7 @@ use mathlib.Core.Bool.{Bool, true, false, not}
 use mathlib.Core.List.{List, [], _∷_}
 use lib.Dec.{eqb}
 use lib.ListN.{length, getD, take}
-use Rattle.refusal.specs.Refusals.{numberIn, numberOf, served, refused}
+use Rattle.refusal.specs.Refusals.{numberIn, numberOf, paper, served, refused}
 use Rattle.refusal.specs.declared.Refusal.{Refusal}
 use Rattle.refusal.specs.Room.{overlay}
 use Rattle.refusal.proofs.Room.{overlay-nothing}
@@ -57,7 +57,7 @@ module _ (given : Answer) (frame room : List ℕ) (place : ℕ) where
       → Laid r after room place (saidLine (paperAnswer given) frame)
   said-frame {n} {r} {after} e h = subst (λ (x : Answer). Laid r after room place (saidLine (paperAnswer x) frame)) (sym e) h
 
-  pub said-refused : {why : Refusal} {r : ℕ} {after : List ℕ} → given ≡ answer.Refused why → Laid r after room place (refusedLine (numberOf why))
+  pub said-refused : {why : Refusal} {r : ℕ} {after : List ℕ} → given ≡ answer.Refused why → Laid r after room place (refusedLine (paper why))
       → Laid r after room place (saidLine (paperAnswer given) frame)
   unfolding lineOf
   said-refused {why} {r} {after} e h = subst (λ (x : Answer). Laid r after room place (saidLine (paperAnswer x) frame)) (sym e) h

@@ -8,11 +8,11 @@ ghost use mathlib.Core.Bool.{true};
 ghost use Prim.Native.Nat.{_+_, _-_, _≤_, min};
 ghost use lib.ListN.{length, getD, take};
 ghost use Rattle.refusal.specs.Room.{overlay, emit};
-ghost use Rattle.refusal.specs.Refusals.{served, numberOf};
+ghost use Rattle.refusal.specs.Refusals.{served, paper, isPlaced};
 ghost use Rattle.shdlc.specs.Paper.{paperWritten};
 ghost use Rattle.receiver.specs.Record.{held, inRange};
 ghost use Rattle.receiver.specs.Calls.{paperAnswer};
-ghost use Rattle.lines.specs.Text.{decimal, field, frameLine, refusedLine, endLine};
+ghost use Rattle.lines.specs.Text.{decimal, field, frameLine, placedField, refusedLine, endLine};
 ghost use Rattle.lines.specs.Program.{lineOf, limit};
 ghost use Rattle.lines.specs.Listing.{paperListing, paperFilled, fillOf};
 ghost use Rattle.lines.specs.Private.{saidLine, paperListed, listOf};
@@ -69,12 +69,32 @@ fn put_frame(out: &mut [u8], place: usize, address: u8, command: u8, l: u8) -> u
     put_field(out, third, l as u32, b'\n')
 }
 
+// Whether the refusal with the number has a place in its stretch.
+fn is_placed(n: u8) -> bool
+    ensures { λ r. ⌜ r ≡ isPlaced n ⌝ }
+{
+    n == 3 || n == 4
+}
+
+// Writes a refusal's number and its place in the stretch.
+fn put_placed(out: &mut [u8], place: usize, n: u8, at: u16) -> usize
+    requires { ⌜ place + 16 ≤ length (now out) ⌝ }
+    ensures { λ r. ⌜ (r ≡ place + length (placedField n at)) × (now (out .exit) ≡ overlay (now (out .entry)) place (placedField n at)) ⌝ }
+{
+    let first = put_field(out, place, n as u32, b' ');
+    let second = put_bytes(out, first, b"at ");
+    put_field(out, second, at as u32, b'\n')
+}
+
 fn put_refused(out: &mut [u8], place: usize, why: Refusal) -> usize
     requires { ⌜ place + 24 ≤ length (now out) ⌝ }
-    ensures { λ r. ⌜ (r ≡ place + length (refusedLine (numberOf why))) × (now (out .exit) ≡ overlay (now (out .entry)) place (refusedLine (numberOf why))) ⌝ }
+    ensures { λ r. ⌜ (r ≡ place + length (refusedLine (paper why))) × (now (out .exit) ≡ overlay (now (out .entry)) place (refusedLine (paper why))) ⌝ }
 {
     let first = put_bytes(out, place, b"refused ");
     let n = refusal::number(why);
+    if is_placed(n) {
+        return put_placed(out, first, n, refusal::place(why));
+    }
     put_field(out, first, n as u32, b'\n')
 }
 

@@ -30,22 +30,22 @@ mode-back Escaped = refl
 mode-back BadEscape = refl
 mode-back BareControl = refl
 
-length-below : (mode : Mode) (n : ℕ) → lengthInRange mode n ≡ true → n < 262
+length-below : (mode : Mode) (n : ℕ) → lengthInRange mode n ≡ true → n < 65536
 length-below Outside n h = omega (arith, eqb-true n 0 h)
-length-below Plain n h = ltb-true n 262 h
-length-below Escaped n h = ltb-true n 262 h
-length-below BadEscape n h = ltb-true n 262 h
-length-below BareControl n h = ltb-true n 262 h
+length-below Plain n h = ltb-true n 65536 h
+length-below Escaped n h = ltb-true n 65536 h
+length-below BadEscape n h = ltb-true n 65536 h
+length-below BareControl n h = ltb-true n 65536 h
 
-pub in-range : (r : Record) → inRange r ≡ true → (length (r .store) ≡ 260) × (r .len < 262)
+pub in-range : (r : Record) → inRange r ≡ true → (length (r .store) ≡ 260) × (r .len < 65536)
 in-range r h = go (eqb (length (r .store)) 260) refl h
   where
     go : (t : Bool) → eqb (length (r .store)) 260 ≡ t → (t && lengthInRange (r .mode) (r .len)) ≡ true
-        → (length (r .store) ≡ 260) × (r .len < 262)
+        → (length (r .store) ≡ 260) × (r .len < 65536)
     go true e g = (eqb-true _ _ e, length-below (r .mode) (r .len) g)
     go false e g = absurd (false≢true g)
 
-two-bytes : (n : ℕ) → n < 262 → n / 256 % 256 * 256 + n % 256 ≡ n
+two-bytes : (n : ℕ) → n < 65536 → n / 256 % 256 * 256 + n % 256 ≡ n
 two-bytes n h = omega arith
 
 module _ (lent : List ℕ) (r : Record) (long : 264 ≤ length lent) (good : inRange r ≡ true) where

@@ -1,14 +1,14 @@
 -- Demand 3 over the record's bytes: every series of calls from C gives what its stream says. Assumes nothing.
 use mathlib.Core.Path.{_≡_, refl, sym, ap, _∙_}
-use mathlib.Core.Bool.{Bool, true, false, cond}
+use mathlib.Core.Bool.{Bool, true, false, cond, _||_, false≢true}
 use mathlib.Core.List.{List, [], _∷_, _++_, map}
 use Prim.Native.Nat.{ℕ, _+_, _≤_}
 use native.Mathlib.Omega.{arith}
-use borrow.Author.Tests.{le-ltb, ltb-true, ne-eqb}
-use lib.Dec.{ltb}
+use borrow.Author.Tests.{le-ltb, ltb-true, eqb-true, ne-eqb}
+use lib.Dec.{eqb, ltb}
 use lib.ListN.{length, take, drop}
 use lib.Seq.{drop-append-seam, take-at}
-use Rattle.refusal.specs.Refusals.{number, numberIn, served, refused}
+use Rattle.refusal.specs.Refusals.{number, _carrying_, isPlaced, served, refused}
 use Rattle.refusal.specs.Room.{overlay}
 use Rattle.shdlc.specs.declared.Kind.{Kind}
 use Rattle.shdlc.specs.Stream.{Event, items}
@@ -72,12 +72,23 @@ module _ (lent : List ℕ) (long : 264 ≤ length lent) (r : Record) (good : inR
       ∙ ap (onRecord bytes) (sym (silence-said r good))
       ∙ put-over (silenceOf r) h
 
+placed-from-3 : (k : ℕ) → isPlaced k ≡ true → 3 ≤ k
+placed-from-3 k = go (eqb k 3) (eqb k 4) refl refl
+  where
+    go : (t u : Bool) → eqb k 3 ≡ t → eqb k 4 ≡ u → (t || u) ≡ true → 3 ≤ k
+    go true u e f h = omega (arith, eqb-true k 3 e)
+    go false true e f h = omega (arith, eqb-true k 4 f)
+    go false false e f h = absurd (false≢true h)
+
 -- C can tell from an answer what it reports
 heard-said : (s : Said) (taken : ℕ) (buffer : List ℕ) → Sayable s
     → heard (told (record { said = s; taken = taken; buffer = buffer })) ≡ reported s buffer
 heard-said nothing taken buffer h = refl
 heard-said (gave (served n)) taken buffer h = rw (ne-eqb n 0 (λ e. omega (arith, h)))
-heard-said (gave (refused n)) taken buffer h = let k = h .0 in rw (h .1, ne-eqb k 0 (λ e. omega (arith, h .2)))
+heard-said (gave (refused (number k))) taken buffer h = rw (h .0, ne-eqb k 0 (λ e. omega (arith, h .1)))
+heard-said (gave (refused (k carrying value))) taken buffer h =
+    let three = placed-from-3 k (h .0) in
+    rw (h .0, ne-eqb k 0 (λ e. omega arith), ne-eqb k 1 (λ e. omega arith))
 
 heard-all : (rs : List Result) → AllSayable rs → heardIn (map told rs) ≡ reports rs
 unfolding AllSayable heardIn reports
@@ -87,7 +98,7 @@ heard-all (r ∷ rs) h = rw (heard-said (r .said) (r .taken) (r .buffer) (h .0),
 not-told-2 : (s : Said) (taken : ℕ) → Sayable s → fed s taken .refusal ≡ 2 → ⊥
 not-told-2 nothing taken h e = omega arith
 not-told-2 (gave (served n)) taken h e = omega arith
-not-told-2 (gave (refused n)) taken h e = h .3 (sym (ap numberIn (h .1)) ∙ e)
+not-told-2 (gave (refused n)) taken h e = h .2 e
 
 none-told-2 : (rs : List Result) → AllSayable rs → NoneTold2 (map told rs)
 unfolding AllSayable NoneTold2

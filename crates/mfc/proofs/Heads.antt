@@ -8,7 +8,7 @@ use native.Mathlib.Omega.{arith}
 use borrow.Author.Tests.{lt-ltb, le-ltb, ltb-false}
 use lib.Dec.{ltb}
 use lib.ListN.{length, getD, set}
-use Rattle.refusal.specs.Refusals.{numberOf, paper, refused}
+use Rattle.refusal.specs.Refusals.{numberOf, placeBy, paper, refused}
 use Rattle.refusal.specs.Room.{overlay}
 use Rattle.refusal.specs.declared.Refusal.{Refusal}
 use Rattle.shdlc.specs.declared.Kind.{Kind}
@@ -135,6 +135,6 @@ unfolding overlay
 head-put [] r h e f = absurd (omega arith)
 head-put (x ∷ l) r h e f = rw e at f
 
-pub fed-refused : (r : Refusal) (taken : ℕ) {n : ℕ} → n ≡ numberOf r
-    → _≡_ {A = MfcFed} (record { refusal = n; «frame_length» = 0; taken = taken }) (fed (gave (refused (paper r))) taken)
-fed-refused r taken e = rw e
+pub fed-refused : (r : Refusal) (taken : ℕ) {n p : ℕ} → n ≡ numberOf r → p ≡ placeBy (paper r)
+    → _≡_ {A = MfcFed} (record { refusal = n; place = p; «frame_length» = 0; taken = taken }) (fed (gave (refused (paper r))) taken)
+fed-refused r taken e f = rw (e, f)

@@ -6,7 +6,7 @@ use mathlib.Core.List.{List, [], _∷_, _++_}
 use mathlib.Core.Option.{Option, none, some}
 use lib.Dec.{ltb}
 use lib.ListN.{length, getD, take, drop}
-use Rattle.refusal.specs.Refusals.{number, numberIn, served, refused}
+use Rattle.refusal.specs.Refusals.{number, numberIn, placeBy, served, refused}
 use Rattle.refusal.specs.Room.{overlay}
 use Rattle.shdlc.specs.declared.Kind.{Kind}
 use Rattle.shdlc.specs.declared.Kind.the-variants.{Request, Reply}
@@ -82,11 +82,11 @@ abbrev pub paperLoaded : Loaded → List ℕ → Option Record
 paperLoaded (loaded.Held r) store = some (held r store)
 paperLoaded loaded.BadRecord store = none
 
--- what a call says: the refusal's number, 0 for none, the length of a frame's body, and the bytes taken
+-- what a call says: the refusal's number, 0 for none, its place, the length of a frame's body, and the bytes taken
 abbrev pub fed : Said → ℕ → MfcFed
-fed nothing taken = record { refusal = 0; «frame_length» = 0; taken = taken }
-fed (gave (served n)) taken = record { refusal = 0; «frame_length» = n; taken = taken }
-fed (gave (refused n)) taken = record { refusal = numberIn n; «frame_length» = 0; taken = taken }
+fed nothing taken = record { refusal = 0; place = 0; «frame_length» = 0; taken = taken }
+fed (gave (served n)) taken = record { refusal = 0; place = 0; «frame_length» = n; taken = taken }
+fed (gave (refused n)) taken = record { refusal = numberIn n; place = placeBy n; «frame_length» = 0; taken = taken }
 
 abbrev pub refusalIn : Said → ℕ
 refusalIn nothing = 0

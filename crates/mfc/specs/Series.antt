@@ -5,7 +5,7 @@ use mathlib.Core.Bool.{cond}
 use mathlib.Core.List.{List, [], _∷_, _++_, map}
 use lib.Dec.{eqb}
 use lib.ListN.{length, take, drop}
-use Rattle.refusal.specs.Refusals.{number, served, refused}
+use Rattle.refusal.specs.Refusals.{Numbered, number, _carrying_, isPlaced, served, refused}
 use Rattle.shdlc.specs.declared.Kind.{Kind}
 use Rattle.shdlc.specs.Stream.{Item, items}
 use Rattle.receiver.specs.Record.{Record, fresh, recordOf}
@@ -16,7 +16,7 @@ use Rattle.mfc.specs.Receivers.{numberOfKind, bytesOf, fed, freshRecord,
 
 -- what a call of C gives: its answer, the record's bytes and the frame afterwards; a mark answers a refusal's number alone
 abbrev pub marked : ℕ × List ℕ → MfcFed × List ℕ × List ℕ
-marked answer = (record { refusal = answer .0; «frame_length» = 0; taken = 0 }, answer .1, [])
+marked answer = (record { refusal = answer .0; place = 0; «frame_length» = 0; taken = 0 }, answer .1, [])
 
 abbrev pub called : List ℕ → Call → MfcFed × List ℕ × List ℕ
 called lent (feeding piece frame) = feedRecord lent piece frame
@@ -35,12 +35,16 @@ bytesAfter lent (call ∷ calls) = bytesAfter (called lent call .1) calls
 abbrev pub told : Result → MfcFed × List ℕ
 told r = (fed (r .said) (r .taken), r .buffer)
 
--- the item that an answer tells C of: a refusal but 1 by its number; a frame by its length, which is not 0, its body at the frame's start
+-- the refusal that an answer tells C of, 3 and 4 with the place
+abbrev pub refusalTold : MfcFed → Numbered
+refusalTold f = cond (isPlaced (f .refusal)) (f .refusal carrying f .place) (number (f .refusal))
+
+-- the item that an answer tells C of: a refusal but 1; a frame by its length, which is not 0, its body at the frame's start
 abbrev pub heard : MfcFed × List ℕ → List Item
 heard t =
     cond (eqb (t .0 .refusal) 0)
     (cond (eqb (t .0 .«frame_length») 0) [] (served (take (t .0 .«frame_length») (t .1)) ∷ []))
-    (cond (eqb (t .0 .refusal) 1) [] (refused (number (t .0 .refusal)) ∷ []))
+    (cond (eqb (t .0 .refusal) 1) [] (refused (refusalTold (t .0)) ∷ []))
 
 unfoldable pub heardIn : List (MfcFed × List ℕ) → List Item
 heardIn [] = []

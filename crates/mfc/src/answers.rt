@@ -61,6 +61,9 @@ pub struct MfcReply {
 pub struct MfcFed {
     // The refusal's number, 0 for none.
     pub refusal: u8,
+    // With refusals 3 and 4 the place of the wrong byte, the 7D or the bare byte, counted from 0 after the 7E that opened its stretch, in
+    // the bytes as received; 65,535 for later ones too. With every other answer 0.
+    pub place: u16,
     // The length of the body that stands at the start of the lent frame.
     pub frame_length: usize,
     // The bytes taken from the piece.
@@ -109,6 +112,12 @@ fn wide(n: u8) -> usize
     n as usize
 }
 
+fn wide_place(n: u16) -> usize
+    ensures { λ r. ⌜ r ≡ n ⌝ }
+{
+    n as usize
+}
+
 // The value that a refusal carries beside its number.
 fn carried(r: Refusal) -> usize
     ensures { λ n. ⌜ n ≡ carriedBy (paper r) ⌝ }
@@ -116,8 +125,8 @@ fn carried(r: Refusal) -> usize
     match r {
         Refusal::NoRoom => 0,
         Refusal::BadRecord => 0,
-        Refusal::BadEscape => 0,
-        Refusal::BareControl => 0,
+        Refusal::BadEscape(place) => wide_place(place),
+        Refusal::BareControl(place) => wide_place(place),
         Refusal::BodyTooLong => 0,
         Refusal::BodyTooShort => 0,
         Refusal::WrongLength => 0,

@@ -127,16 +127,19 @@ fn of_answer(answer: Answer, taken: usize) -> MfcFed
     match answer {
         Answer::Nothing => MfcFed {
             refusal: 0,
+            place: 0,
             frame_length: 0,
             taken: taken,
         },
         Answer::Frame(n) => MfcFed {
             refusal: 0,
+            place: 0,
             frame_length: n,
             taken: taken,
         },
         Answer::Refused(why) => MfcFed {
             refusal: refusal::number(why),
+            place: refusal::place(why),
             frame_length: 0,
             taken: taken,
         },
@@ -177,8 +180,9 @@ pub extern "C" fn mfc_receiver_fresh(kind: u8, record: &mut [u8]) -> u8
 // Hands the n bytes of a piece to the receiver whose record is lent. It takes bytes up to and including the one that completes an item,
 // a frame or a refusal, or all of them: hand in the rest again. A frame's unstuffed body stands at the start of frame; else frame is
 // untouched. Refusals, in their order: 2 where size is under MFC_RECORD_SIZE or a field of the record is out of its range; 1 where room is
-// under MFC_FRAME_ROOM; else those of the bytes up to a 7E that are no frame: 3 for a wrong escape, 4 for a bare 11 or 13 hex, then 5 to 8
-// of the body (too long, too short, L wrong, checksum wrong). With 2 and 1 nothing is taken: the same call again is refused again.
+// under MFC_FRAME_ROOM; else those of the bytes up to a 7E that are no frame: 3 for a wrong escape or 4 for a bare 11 or 13 hex, whichever
+// comes first, with its place; then 5 to 8 of the body (too long, too short, L wrong, checksum wrong). With 2 and 1 nothing is taken: the
+// same call again is refused again.
 #[no_mangle]
 pub extern "C" fn mfc_feed(record: &mut [u8], piece: &[u8], frame: &mut [u8]) -> MfcFed
     ensures { λ r. ⌜ (r, now («record» .exit), now (frame .exit)) ≡ feedRecord (now («record» .entry)) (now (piece .entry)) (now (frame .entry)) ⌝ }

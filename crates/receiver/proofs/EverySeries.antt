@@ -8,7 +8,7 @@ use lib.Dec.{ltb, eqb}
 use lib.ListN.{length, take, drop, getD, replicate, length-append, length-replicate, take-append-drop}
 use lib.Seq.{drop-append-seam}
 use borrow.Author.Tests.{ltb-true, ltb-false, lt-ltb, le-ltb, ne-eqb}
-use Rattle.refusal.specs.Refusals.{number, served, refused}
+use Rattle.refusal.specs.Refusals.{Numbered, number, _carrying_, numberIn, isPlaced, served, refused}
 use Rattle.refusal.proofs.Room.{take-overlay}
 use Rattle.shdlc.specs.declared.Kind.{Kind}
 use Rattle.shdlc.specs.declared.Kind.the-variants.{Request, Reply}
@@ -150,20 +150,25 @@ scans kind (b ∷ piece) place r n h =
     (scans-byte kind place r n b h (closes r b) (upToAt kind (next place (byte b)) piece) (scanFrom (n + 1) (nextByte r b) piece) refl
     (scans kind piece (next place (byte b)) (nextRecord r (byte b)) (n + 1) (at-next kind place r (byte b) h)))
 
--- an item of a stream is a frame with a byte, or a refusal from 3 on, which carries nothing
+-- 3 and 4 carry their place; no other refusal in a series carries anything
+abbrev pub Carries : Numbered → Type 0
+Carries (number k) = isPlaced k ≡ false
+Carries (k carrying value) = isPlaced k ≡ true
+
+-- an item of a stream is a frame with a byte, or a refusal from 3 on
 abbrev Proper : Item → Type 0
 Proper (served body) = 1 ≤ length body
-Proper (refused n) = (k : ℕ) × (n ≡ number k) × (3 ≤ k)
+Proper (refused n) = Carries n × (3 ≤ numberIn n)
 
-proper-number : (n : ℕ) → 3 ≤ n → Proper (refused (number n))
-proper-number n h = (n, refl, h)
+proper-number : (n : ℕ) → isPlaced n ≡ false → 3 ≤ n → Proper (refused (number n))
+proper-number n e h = (e, h)
 
 proper-checks : (a b c d : Bool) (body : List ℕ) → (b ≡ false → 1 ≤ length body)
     → Proper (cond a (refused (number 5)) (cond b (refused (number 6)) (cond c (refused (number 7)) (cond d (refused (number 8)) (served body)))))
-proper-checks true b c d body h = proper-number 5 (omega arith)
-proper-checks false true c d body h = proper-number 6 (omega arith)
-proper-checks false false true d body h = proper-number 7 (omega arith)
-proper-checks false false false true body h = proper-number 8 (omega arith)
+proper-checks true b c d body h = proper-number 5 refl (omega arith)
+proper-checks false true c d body h = proper-number 6 refl (omega arith)
+proper-checks false false true d body h = proper-number 7 refl (omega arith)
+proper-checks false false false true body h = proper-number 8 refl (omega arith)
 proper-checks false false false false body h = h refl
 
 shortest-some : (kind : Kind) → 1 ≤ shortest kind
@@ -179,15 +184,15 @@ proper-body kind body =
     (λ e. omega (arith, ltb-false (length body) (shortest kind) e, shortest-some kind))
 
 proper-long : (t : Bool) (i : Item) → Proper i → Proper (cond t (refused (number 5)) i)
-proper-long true i h = proper-number 5 (omega arith)
+proper-long true i h = proper-number 5 refl (omega arith)
 proper-long false i h = h
 
 proper-item : (m : Mode) (kind : Kind) (n : ℕ) (store : List ℕ) → Proper (itemIn m kind n store)
-proper-item Outside kind n store = proper-number 3 (omega arith)
+proper-item Outside kind n store = (refl, omega arith)
 proper-item Plain kind n store = proper-long (ltb 260 n) (checkBody kind (take n store)) (proper-body kind (take n store))
-proper-item Escaped kind n store = proper-number 3 (omega arith)
-proper-item BadEscape kind n store = proper-number 3 (omega arith)
-proper-item BareControl kind n store = proper-number 4 (omega arith)
+proper-item Escaped kind n store = (refl, omega arith)
+proper-item BadEscape kind n store = (refl, omega arith)
+proper-item BareControl kind n store = (refl, omega arith)
 
 -- at most one item is gained by a call, and it is proper
 abbrev One : List Item → Type 0
@@ -197,17 +202,18 @@ One (i ∷ l) = Proper i × (l ≡ [])
 -- what a call gives is reported again as what was gained
 report-item : (i : Item) (buffer : List ℕ) → Proper i → reported (saidOf i) (bufferOf i buffer) ≡ i ∷ []
 report-item (served body) buffer h = ap (λ (s : List ℕ). served s ∷ []) (take-overlay buffer body)
-report-item (refused n) buffer h = let k = h .0 in rw (h .1, ne-eqb k 1 (λ e. omega (arith, h .2)))
+report-item (refused (number k)) buffer h = rw (ne-eqb k 1 (λ e. omega (arith, h .1)))
+report-item (refused (k carrying value)) buffer h = refl
 
 reports-back : (g : List Item) (n : ℕ) (buffer : List ℕ) → One g → reported (giving g n buffer .said) (giving g n buffer .buffer) ≡ g
 reports-back [] n buffer h = refl
 reports-back (i ∷ l) n buffer h = report-item i buffer (h .0) ∙ ap (λ (x : List Item). i ∷ x) (sym (h .1))
 
--- what a call says in a series: nothing yet, a frame with a byte, or a refusal by a number that is neither 0 nor 2
+-- what a call says in a series: nothing yet, a frame with a byte, or a refusal whose number is neither 0 nor 2
 abbrev pub Sayable : Said → Type 0
 Sayable nothing = Unit {0}
 Sayable (gave (served n)) = 1 ≤ n
-Sayable (gave (refused n)) = (k : ℕ) × (n ≡ number k) × (1 ≤ k) × (k ≡ 2 → ⊥)
+Sayable (gave (refused n)) = Carries n × (1 ≤ numberIn n) × (numberIn n ≡ 2 → ⊥)
 
 unfoldable pub AllSayable : List Result → Type 0
 AllSayable [] = Unit {0}
@@ -215,7 +221,7 @@ AllSayable (result ∷ results) = Sayable (result .said) × AllSayable results
 
 sayable-item : (i : Item) → Proper i → Sayable (saidOf i)
 sayable-item (served body) h = h
-sayable-item (refused n) h = (h .0, h .1, omega (arith, h .2), λ e. omega (arith, h .2))
+sayable-item (refused n) h = (h .0, omega (arith, h .1), λ e. omega (arith, h .1))
 
 sayable-giving : (g : List Item) (n : ℕ) (buffer : List ℕ) → One g → Sayable (giving g n buffer .said)
 sayable-giving [] n buffer h = tt
@@ -226,8 +232,7 @@ sayable-not-2 nothing h e = let z : _≡_ {A = ℕ} 0 1 = cc in omega arith
 sayable-not-2 (gave (served n)) h e = let z : _≡_ {A = ℕ} 0 1 = cc in omega arith
 sayable-not-2 (gave (refused n)) h e =
     let k : n ≡ number 2 = cc in
-    let same : number (h .0) ≡ number 2 = sym (h .1) ∙ k in
-    h .3 (let z : h .0 ≡ 2 = cc in z)
+    h .2 (ap numberIn k)
 
 none-2 : (rs : List Result) → AllSayable rs → NoneRefused2 rs
 unfolding AllSayable NoneRefused2
@@ -260,7 +265,7 @@ abbrev cut : Bool → List Item
 cut t = cond t (refused (number 9) ∷ []) []
 
 one-cut : (t : Bool) → One (cut t)
-one-cut true = (proper-number 9 (omega arith), refl)
+one-cut true = (proper-number 9 refl (omega arith), refl)
 one-cut false = tt
 
 quiet-result : (t : Bool) (r : Record) → quiet r (cond t (gave (refused (number 9))) nothing) .result ≡ giving (cut t) 0 []
@@ -295,7 +300,7 @@ module _ (kind : Kind) (stream : List Event) (r : Record) (h : At kind (placeOf 
           gives = rw e (ap (λ (x : Outcome). x .result) f);
           leaves = rw e (ap (λ (x : Outcome). x .leaves) f);
           reports = rw e (sym (gained-at kind stream []));
-          says = rw e (1, refl, omega arith, λ q. omega arith);
+          says = rw e (refl, omega arith, λ q. omega arith);
         }
 
     meets-large : 260 ≤ length buffer → Meets kind stream r (feeding piece buffer)

@@ -1,5 +1,5 @@
 -- The ranges are tight: every record within them is left by some stream. Assumes nothing.
-use Prim.Native.Nat.{ℕ, _+_, _≤_, _<_}
+use Prim.Native.Nat.{ℕ, zero, suc, _+_, _-_, _≤_, _<_}
 use native.Mathlib.Nat.{add-zero}
 use native.Mathlib.Omega.{arith}
 use mathlib.Core.Path.{_≡_, refl, sym, ap, subst, _∙_}
@@ -20,7 +20,7 @@ use Rattle.receiver.specs.declared.Mode.{Mode}
 use Rattle.receiver.specs.declared.Mode.the-variants.{Outside, Plain, Escaped, BadEscape, BareControl}
 use Rattle.receiver.specs.Record.{Record, lengthInRange, inRange, fresh, Store, pushed, acted, nextByte, nextRecord, recordFrom, recordOf}
 use Rattle.receiver.proofs.Cases.{range-size}
-use Rattle.receiver.proofs.Turns.{inStretch, store-room}
+use Rattle.receiver.proofs.Turns.{inStretch, store-room, store-full}
 use Rattle.receiver.proofs.EverySeries.{record-append}
 
 -- a byte as it is sent is stored
@@ -107,20 +107,30 @@ short kind store n size h =
     ∙ (λ i. inStretch kind (count i) (again store n within i)))
     (and-then kind (inStretch kind 260 store) (byte 0x7E ∷ map byte (stuff (take n store))) (filled kind store size))
 
--- and 261
-one-more : (kind : Kind) (store : List ℕ) → recordFrom (inStretch kind 260 store) (byte 0 ∷ []) ≡ inStretch kind 261 store
-unfolding recordFrom nextRecord nextByte acted
-one-more kind store = refl
+-- and past 260, a byte at a time
+one-more : (kind : Kind) (store : List ℕ) (n : ℕ) → 260 ≤ n → n < 65535
+    → recordFrom (inStretch kind n store) (byte 0 ∷ []) ≡ inStretch kind (n + 1) store
+unfolding recordFrom nextRecord nextByte stuffByte
+one-more kind store n h l =
+    store-full (inStretch kind n store) 0 h refl (omega arith)
 
-any-length : (kind : Kind) (store : List ℕ) (n : ℕ) → length store ≡ 260 → n < 262 → Left kind (inStretch kind n store)
+past : (kind : Kind) (store : List ℕ) (n : ℕ) → length store ≡ 260 → 260 + n < 65536 → Left kind (inStretch kind (260 + n) store)
+past kind store zero size h = filled kind store size
+past kind store (suc n) size h =
+    let next : 260 + n + 1 ≡ 260 + suc n = omega arith in
+    subst (λ (k : ℕ). Left kind (inStretch kind k store)) next
+    (subst (Left kind) (one-more kind store (260 + n) (omega arith) (omega arith))
+    (and-then kind (inStretch kind (260 + n) store) (byte 0 ∷ []) (past kind store n size (omega arith))))
+
+any-length : (kind : Kind) (store : List ℕ) (n : ℕ) → length store ≡ 260 → n < 65536 → Left kind (inStretch kind n store)
 any-length kind store n size h = go (ltb n 261) refl
   where
     go : (t : Bool) → ltb n 261 ≡ t → Left kind (inStretch kind n store)
     go true e = short kind store n size (omega (arith, ltb-true n 261 e))
     go false e =
-        let last : 261 ≡ n = omega (arith, ltb-false n 261 e) in
-        subst (λ (m : ℕ). Left kind (inStretch kind m store)) last
-        (subst (Left kind) (one-more kind store) (and-then kind (inStretch kind 260 store) (byte 0 ∷ []) (filled kind store size)))
+        let l : 261 ≤ n = ltb-false n 261 e in
+        let all : 260 + (n - 260) ≡ n = omega arith in
+        subst (λ (m : ℕ). Left kind (inStretch kind m store)) all (past kind store (n - 260) size (omega arith))
 
 -- and any mode
 any-mode : (m : Mode) (kind : Kind) (n : ℕ) (store : List ℕ) → length store ≡ 260 → lengthInRange m n ≡ true
@@ -130,13 +140,13 @@ any-mode Outside kind n store size h =
     let none : 0 ≡ n = sym (eqb-true n 0 h) in
     subst (λ (k : ℕ). Left kind (record { kind = kind; mode = Outside; len = k; store = store })) none
     (and-then kind (inStretch kind 260 store) (mark ∷ []) (filled kind store size))
-any-mode Plain kind n store size h = any-length kind store n size (ltb-true n 262 h)
+any-mode Plain kind n store size h = any-length kind store n size (ltb-true n 65536 h)
 any-mode Escaped kind n store size h =
-    and-then kind (inStretch kind n store) (byte 0x7D ∷ []) (any-length kind store n size (ltb-true n 262 h))
+    and-then kind (inStretch kind n store) (byte 0x7D ∷ []) (any-length kind store n size (ltb-true n 65536 h))
 any-mode BadEscape kind n store size h =
-    and-then kind (inStretch kind n store) (byte 0x7D ∷ byte 0 ∷ []) (any-length kind store n size (ltb-true n 262 h))
+    and-then kind (inStretch kind n store) (byte 0x7D ∷ byte 0 ∷ []) (any-length kind store n size (ltb-true n 65536 h))
 any-mode BareControl kind n store size h =
-    and-then kind (inStretch kind n store) (byte 0x11 ∷ []) (any-length kind store n size (ltb-true n 262 h))
+    and-then kind (inStretch kind n store) (byte 0x11 ∷ []) (any-length kind store n size (ltb-true n 65536 h))
 
 second : (t u : Bool) → (t && u) ≡ true → u ≡ true
 second true u h = h

@@ -1,5 +1,5 @@
 -- What a turn of the scan's loop comes to, and a run of bytes that it stores. Assumes nothing.
-use Prim.Native.Nat.{ℕ, _+_, _-_, _<_, _≤_}
+use Prim.Native.Nat.{ℕ, _+_, _-_, _<_, _≤_, min}
 use native.Mathlib.Omega.{arith}
 use mathlib.Core.Path.{_≡_, refl, sym, ap, subst, _∙_}
 use mathlib.Core.Bool.{Bool, true, false, cond, _||_, false≢true}
@@ -10,7 +10,7 @@ use lib.Dec.{ltb, eqb}
 use lib.ListN.{length, getD, take, drop, set, length-drop}
 use lib.Seq.{take-all, drop-drop}
 use Rattle.shdlc.specs.declared.Kind.{Kind}
-use Rattle.shdlc.specs.Stuffing.{isControl}
+use Rattle.shdlc.specs.Stuffing.{stuffByte, isControl}
 use Rattle.refusal.proofs.Rest.{rest-here, rest-end}
 use Rattle.receiver.specs.declared.Mode.{Mode}
 use Rattle.receiver.specs.declared.Mode.the-variants.{Plain, Escaped, BareControl}
@@ -46,9 +46,10 @@ module _ (r : Record) (b : ℕ) where
   unfolding acted
   store-room h = rw (lt-ltb (r .len) 260 h)
 
-  pub store-full : 260 ≤ r .len → acted r (Store b) ≡ record { kind = r .kind; mode = Plain; len = 261; store = r .store }
+  pub store-full : 260 ≤ r .len → {k len : ℕ} → length (stuffByte b) ≡ k → len ≡ min (r .len + k) 65535
+      → acted r (Store b) ≡ record { kind = r .kind; mode = Plain; len = len; store = r .store }
   unfolding acted
-  store-full h = rw (le-ltb (r .len) 260 h)
+  store-full h e l = rw (le-ltb (r .len) 260 h, e, l)
 
 -- a byte of the body leaves the same in whatever mode it is read
 pub store-any : (kind : Kind) (mode : Mode) (n : ℕ) (store : List ℕ) (b : ℕ)
@@ -83,9 +84,10 @@ module _ (n : ℕ) (r : Record) (b : ℕ) (piece : List ℕ) where
       → scanFrom n r (b ∷ piece) ≡ scanFrom (n + 1) (inStretch (r .kind) (r .len + 1) (set (r .store) (r .len) v)) piece
   turn-store e v p h = turn-act e (Store v) p ∙ ap (λ (x : Record). scanFrom (n + 1) x piece) (store-room r v h)
 
-  pub turn-full : (b ≡ 0x7E → ⊥) → (v : ℕ) → actOf (r .mode) b ≡ Store v → 260 ≤ r .len
-      → scanFrom n r (b ∷ piece) ≡ scanFrom (n + 1) (inStretch (r .kind) 261 (r .store)) piece
-  turn-full e v p h = turn-act e (Store v) p ∙ ap (λ (x : Record). scanFrom (n + 1) x piece) (store-full r v h)
+  pub turn-full : (b ≡ 0x7E → ⊥) → (v : ℕ) → actOf (r .mode) b ≡ Store v → 260 ≤ r .len → {k len : ℕ} → length (stuffByte v) ≡ k
+      → len ≡ min (r .len + k) 65535
+      → scanFrom n r (b ∷ piece) ≡ scanFrom (n + 1) (inStretch (r .kind) len (r .store)) piece
+  turn-full e v p h s l = turn-act e (Store v) p ∙ ap (λ (x : Record). scanFrom (n + 1) x piece) (store-full r v h s l)
 
 -- a loop that has read i bytes of the piece reads one more
 pub scan-next : (start r : Record) (piece : List ℕ) (i : ℕ) {x : Scan} → i < length piece

@@ -1,15 +1,15 @@
 -- The receiver's record: its ranges, the fresh record of each kind, and what a byte or a silence mark does to it (docs/RECORD.md).
 -- To be believed are the record, its ranges and the fresh record, up to `fresh`. What follows is the model of the code: demand 3
 -- (Series.antt) says what comes of it for every series of calls, and every record within the ranges is left by some stream (`reached`).
-use Prim.Native.Nat.{ℕ, _+_}
+use Prim.Native.Nat.{ℕ, _+_, _-_, min}
 use mathlib.Core.Bool.{Bool, true, false, cond, _&&_}
 use mathlib.Core.List.{List, [], _∷_}
 use mathlib.Core.Option.{Option, none, some}
 use lib.Dec.{ltb, eqb}
 use lib.ListN.{length, take, set, replicate}
-use Rattle.refusal.specs.Refusals.{number, refused}
+use Rattle.refusal.specs.Refusals.{number, _carrying_, refused}
 use Rattle.shdlc.specs.declared.Kind.{Kind}
-use Rattle.shdlc.specs.Stuffing.{escapes, leftOf, isControl}
+use Rattle.shdlc.specs.Stuffing.{escapes, leftOf, stuffByte, stuff, isControl, reportedPlace}
 use Rattle.shdlc.specs.Body.{checkBody}
 use Rattle.shdlc.specs.Stream.{Event, byte, mark, Item}
 use Rattle.receiver.specs.declared.Mode.{Mode}
@@ -38,13 +38,13 @@ numberOfMode BareControl = 4
 abbrev pub modeOf : ℕ → Mode
 modeOf n = cond (eqb n 0) Outside (cond (eqb n 1) Plain (cond (eqb n 2) Escaped (cond (eqb n 3) BadEscape BareControl)))
 
--- outside a stretch no byte is held; inside one up to 260, and 261 stands for more
+-- outside a stretch no byte is held; inside one up to 260 unstuffed bytes, then one more for each byte received, and 65,535 stands for more
 abbrev pub lengthInRange : Mode → ℕ → Bool
 lengthInRange Outside n = eqb n 0
-lengthInRange Plain n = ltb n 262
-lengthInRange Escaped n = ltb n 262
-lengthInRange BadEscape n = ltb n 262
-lengthInRange BareControl n = ltb n 262
+lengthInRange Plain n = ltb n 65536
+lengthInRange Escaped n = ltb n 65536
+lengthInRange BadEscape n = ltb n 65536
+lengthInRange BareControl n = ltb n 65536
 
 abbrev pub inRange : Record → Bool
 inRange r = eqb (length (r .store)) 260 && lengthInRange (r .mode) (r .len)
@@ -74,10 +74,10 @@ actOf Escaped b = unescape (leftOf escapes b)
 actOf BadEscape b = Become BadEscape
 actOf BareControl b = Become BareControl
 
--- a byte of the body, kept where there is room for it
+-- a byte of the body, kept where there is room for it; else the bytes that it was sent as are counted
 abbrev pub pushed : Bool → Record → ℕ → Record
 pushed true r b = record { kind = r .kind; mode = Plain; len = r .len + 1; store = set (r .store) (r .len) b }
-pushed false r b = record { kind = r .kind; mode = Plain; len = 261; store = r .store }
+pushed false r b = record { kind = r .kind; mode = Plain; len = reportedPlace (r .len + length (stuffByte b)); store = r .store }
 
 unfoldable pub acted : Record → Act → Record
 acted r (Store b) = pushed (ltb (r .len) 260) r b
@@ -102,13 +102,26 @@ pendingIn BareControl n = true
 abbrev pub pending : Record → Bool
 pending r = pendingIn (r .mode) (r .len)
 
+-- 02 (vii): the place of the fault that the mode tells: what was received before it is what is stored, as it was sent, and what was counted
+-- past 260
+unfoldable pub placeIn : ℕ → List ℕ → ℕ
+placeIn n store = reportedPlace (length (stuff (take n store)) + (n - 260))
+
+-- the refusal that a mode tells; in the first two there is none, and the value there is never asked for
+abbrev pub faultOf : Mode → ℕ
+faultOf Outside = 3
+faultOf Plain = 3
+faultOf Escaped = 3
+faultOf BadEscape = 3
+faultOf BareControl = 4
+
 -- the item of a stretch that a 7E ends here; outside there is none, and the value there is never asked for
 abbrev pub itemIn : Mode → Kind → ℕ → List ℕ → Item
-itemIn Outside kind n store = refused (number 3)
+itemIn Outside kind n store = refused (3 carrying placeIn n store)
 itemIn Plain kind n store = cond (ltb 260 n) (refused (number 5)) (checkBody kind (take n store))
-itemIn Escaped kind n store = refused (number 3)
-itemIn BadEscape kind n store = refused (number 3)
-itemIn BareControl kind n store = refused (number 4)
+itemIn Escaped kind n store = refused (3 carrying placeIn n store)
+itemIn BadEscape kind n store = refused (3 carrying placeIn n store)
+itemIn BareControl kind n store = refused (4 carrying placeIn n store)
 
 abbrev pub itemOf : Record → Item
 itemOf r = itemIn (r .mode) (r .kind) (r .len) (r .store)

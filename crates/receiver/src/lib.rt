@@ -6,15 +6,16 @@ ghost use mathlib.Core.Path.{_≡_};
 ghost use mathlib.Core.Bool.{false, cond, _&&_, _||_};
 ghost use mathlib.Core.List.{[], _∷_};
 ghost use mathlib.Core.Option.{none, some};
-ghost use Prim.Native.Nat.{ℕ, _≤_, _+_};
+ghost use Prim.Native.Nat.{ℕ, _≤_, _+_, _-_, min};
 ghost use lib.Bits.{bitXor};
 ghost use lib.Dec.{eqb};
 ghost use lib.ListN.{length, take, drop, replicate};
+ghost use Rattle.refusal.specs.Refusals.{_carrying_, paper};
 ghost use Rattle.refusal.specs.Room.{overlay};
 ghost use Rattle.shdlc.specs.declared.Kind.{Kind as FrameKind};
 ghost use Rattle.shdlc.specs.Paper.{paperChecked};
-ghost use Rattle.shdlc.specs.Stuffing.{escapes, leftOf, isControl};
-ghost use Rattle.receiver.specs.Record.{held, numberOfMode, modeOf, outsideOf, lengthInRange, Store, acted, pendingIn, itemIn};
+ghost use Rattle.shdlc.specs.Stuffing.{escapes, leftOf, stuffByte, isControl};
+ghost use Rattle.receiver.specs.Record.{held, numberOfMode, modeOf, outsideOf, lengthInRange, Store, acted, pendingIn, placeIn, faultOf, itemIn};
 ghost use Rattle.receiver.specs.Calls.{paperFed, paperQuiet, paperMade, freshOf, feedOf, silenceOf, completed, scannedAs, scanFrom};
 
 // Where the receiver stands: before the first 7E or after silence; in a stretch; in one after a 7D; in one with the fault of
@@ -149,7 +150,7 @@ fn is_pending(m: u8, len: usize) -> bool
 fn length_in_range(mode: Mode, len: usize) -> bool
     ensures { λ r. ⌜ r ≡ lengthInRange mode len ⌝ }
 {
-    if 261 < len {
+    if 65535 < len {
         return false;
     }
     if len == 0 {
@@ -204,17 +205,51 @@ pub fn fresh(kind: Kind, store: &mut [u8]) -> Made
     Made::Fresh(outside(kind))
 }
 
+// The bytes that the store holds of so many.
+fn kept(len: usize) -> usize
+    ensures { λ r. ⌜ r ≡ min len 260 ⌝ }
+{
+    if len < 260 { len } else { 260 }
+}
+
+// The place of a fault in its stretch: the bytes received before it are the stored ones, as they were sent, and those past 260.
+fn place_in(len: usize, store: &[u8]) -> u16
+    requires { ⌜ length (now store) ≡ 260 ⌝ }
+    ensures { λ r. ⌜ r ≡ placeIn len (now (store .entry)) ⌝ }
+{
+    if 65535 <= len {
+        return 65535;
+    }
+    let n = kept(len);
+    let place = shdlc::stuffed_len(&store[..n]) + (len - n);
+    if 65535 <= place {
+        return 65535;
+    }
+    place as u16
+}
+
+// The refusal that a mode tells, with its place.
+fn fault(mode: Mode, place: u16) -> Refusal
+    ensures { λ r. ⌜ paper r ≡ faultOf mode carrying place ⌝ }
+{
+    match mode {
+        Mode::Outside => Refusal::BadEscape(place),
+        Mode::Plain => Refusal::BadEscape(place),
+        Mode::Escaped => Refusal::BadEscape(place),
+        Mode::BadEscape => Refusal::BadEscape(place),
+        Mode::BareControl => Refusal::BareControl(place),
+    }
+}
+
 // The item of a stretch that a 7E ends: a frame is the first len bytes of the store.
 fn judge(kind: Kind, mode: Mode, len: usize, store: &[u8]) -> Checked
     requires { ⌜ length (now store) ≡ 260 ⌝ }
     ensures { λ r. ⌜ paperChecked (take len (now (store .entry))) r ≡ itemIn mode kind len (now (store .entry)) ⌝ }
 {
     match mode {
-        Mode::Outside => Checked::Refused(Refusal::BadEscape),
         Mode::Plain => judge_body(kind, len, store),
-        Mode::Escaped => Checked::Refused(Refusal::BadEscape),
-        Mode::BadEscape => Checked::Refused(Refusal::BadEscape),
-        Mode::BareControl => Checked::Refused(Refusal::BareControl),
+        Mode::Outside | Mode::Escaped | Mode::BadEscape | Mode::BareControl =>
+            Checked::Refused(fault(mode, place_in(len, store))),
     }
 }
 
@@ -268,6 +303,21 @@ fn complete(r: Receiver, taken: usize, store: &[u8], frame: &mut [u8]) -> Fed
             answer: Answer::Refused(why),
         },
     }
+}
+
+// What is left of a where b is taken from it.
+fn less(a: usize, b: usize) -> usize
+    ensures { λ r. ⌜ r ≡ a - b ⌝ }
+{
+    if a < b { 0 } else { a - b }
+}
+
+// The length past 260 with a byte more that came as n bytes. It is no sum: that would be compiled as one with the sum of a stored byte's
+// length, and storing a byte would take a jump more.
+fn past(len: usize, n: usize) -> usize
+    ensures { λ r. ⌜ r ≡ min (len + n) 65535 ⌝ }
+{
+    65535 - less(less(65535, len), n)
 }
 
 // Stores the piece's bytes up to the first special one, or as many as the store has room for, and answers how many.
@@ -332,7 +382,7 @@ fn scan(r: Receiver, store: &mut [u8], piece: &[u8]) -> Scanned
                     i += n;
                 }
             } else {
-                len = 261;
+                len = past(len, 1);
             }
         } else if m == ESCAPED {
             if is_escaped(b) {
@@ -341,7 +391,7 @@ fn scan(r: Receiver, store: &mut [u8], piece: &[u8]) -> Scanned
                     store[len] = b ^ 0x20;
                     len += 1;
                 } else {
-                    len = 261;
+                    len = past(len, 2);
                 }
             } else {
                 m = BAD_ESCAPE;
@@ -374,9 +424,10 @@ fn stands(kind: Kind, m: u8, len: usize) -> Scanned
     }
 }
 
-// The same of a byte of the body, kept where the store has room for it; it leaves the same in whatever mode it is read.
-fn push(kind: Kind, len: usize, store: &mut [u8], v: u8) -> Scanned
-    requires { ⌜ length (now store) ≡ 260 ⌝ }
+// The same of a byte of the body, which came as n bytes and is kept where the store has room for it; it leaves the same in whatever mode it
+// is read.
+fn push(kind: Kind, len: usize, store: &mut [u8], v: u8, n: usize) -> Scanned
+    requires { ⌜ (length (now store) ≡ 260) × (length (stuffByte v) ≡ n) ⌝ }
     ensures { λ s. ⌜ scannedAs s (now (store .exit)) ≡ record {
       before = acted (record { kind = kind; mode = Mode.Plain; len = len; store = now (store .entry) }) (Store v);
       taken = 1;
@@ -387,7 +438,7 @@ fn push(kind: Kind, len: usize, store: &mut [u8], v: u8) -> Scanned
         store[len] = v;
         return stands(kind, PLAIN, len + 1);
     }
-    stands(kind, PLAIN, 261)
+    stands(kind, PLAIN, past(len, n))
 }
 
 // `scan` of a piece of one byte, without the loop: a driver that hands in each byte as it comes pays for that byte alone.
@@ -420,11 +471,11 @@ fn scan_one(r: Receiver, store: &mut [u8], b: u8) -> Scanned
         if is_control(b) {
             return stands(kind, BARE_CONTROL, len);
         }
-        return push(kind, len, store, b);
+        return push(kind, len, store, b, 1);
     }
     if m == ESCAPED {
         if is_escaped(b) {
-            return push(kind, len, store, b ^ 0x20);
+            return push(kind, len, store, b ^ 0x20, 2);
         }
         return stands(kind, BAD_ESCAPE, len);
     }

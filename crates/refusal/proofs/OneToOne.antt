@@ -17,8 +17,8 @@ plain : List Refusal
 plain =
     NoRoom
     ∷ BadRecord
-    ∷ BadEscape
-    ∷ BareControl
+    ∷ BadEscape 0
+    ∷ BareControl 0
     ∷ BodyTooLong
     ∷ BodyTooShort
     ∷ WrongLength
@@ -42,14 +42,15 @@ plain =
 
 back : Numbered → Refusal
 back (number n) = nth plain (pred n)
-back (n carrying value) = cond (eqb n 15) (DeviceError value) (WrongCrc value)
+back (n carrying value) =
+    cond (eqb n 3) (BadEscape value) (cond (eqb n 4) (BareControl value) (cond (eqb n 15) (DeviceError value) (WrongCrc value)))
 
 back-paper : (r : Refusal) → back (paper r) ≡ r
 unfolding nth plain back
 back-paper NoRoom = refl
 back-paper BadRecord = refl
-back-paper BadEscape = refl
-back-paper BareControl = refl
+back-paper (BadEscape value) = refl
+back-paper (BareControl value) = refl
 back-paper BodyTooLong = refl
 back-paper BodyTooShort = refl
 back-paper WrongLength = refl

@@ -1,6 +1,6 @@
 // The refusals: one named case for each number of document 01's table, and for each that document 02 adds.
 ghost use mathlib.Core.Path.{_≡_};
-ghost use Rattle.refusal.specs.Refusals.{numberOf};
+ghost use Rattle.refusal.specs.Refusals.{numberOf, placeOf};
 
 // Why an entry point does not serve. The comment of a case is its number and its row of the table.
 pub enum Refusal {
@@ -8,10 +8,10 @@ pub enum Refusal {
     NoRoom,
     // 2: receiver record outside its ranges; a board's table with an entry out of range, or with a node and kind twice.
     BadRecord,
-    // 3: 7D not followed by 5E, 5D, 31 or 33, or last in the stretch.
-    BadEscape,
-    // 4: 11 or 13 not after a 7D.
-    BareControl,
+    // 3: 7D not followed by 5E, 5D, 31 or 33, or last in the stretch; the place of the 7D there.
+    BadEscape(u16),
+    // 4: 11 or 13 not after a 7D; its place in the stretch, as received.
+    BareControl(u16),
     // 5: body over 259 (request) or 260 (reply).
     BodyTooLong,
     // 6: body under 4 (request) or 5 (reply).
@@ -60,8 +60,8 @@ pub fn number(r: Refusal) -> u8
     match r {
         Refusal::NoRoom => 1,
         Refusal::BadRecord => 2,
-        Refusal::BadEscape => 3,
-        Refusal::BareControl => 4,
+        Refusal::BadEscape(_) => 3,
+        Refusal::BareControl(_) => 4,
         Refusal::BodyTooLong => 5,
         Refusal::BodyTooShort => 6,
         Refusal::WrongLength => 7,
@@ -81,5 +81,36 @@ pub fn number(r: Refusal) -> u8
         Refusal::BadTrailer => 21,
         Refusal::BadKind => 22,
         Refusal::WrongCount => 23,
+    }
+}
+
+// The place in its stretch that a refusal carries, 0 where it carries none.
+pub fn place(r: Refusal) -> u16
+    ensures { λ p. ⌜ p ≡ placeOf r ⌝ }
+{
+    match r {
+        Refusal::NoRoom => 0,
+        Refusal::BadRecord => 0,
+        Refusal::BadEscape(place) => place,
+        Refusal::BareControl(place) => place,
+        Refusal::BodyTooLong => 0,
+        Refusal::BodyTooShort => 0,
+        Refusal::WrongLength => 0,
+        Refusal::WrongChecksum => 0,
+        Refusal::CutBySilence => 0,
+        Refusal::AddressBroadcast => 0,
+        Refusal::UnknownCommand => 0,
+        Refusal::OutOfRange => 0,
+        Refusal::BadFloat => 0,
+        Refusal::ForeignReply => 0,
+        Refusal::DeviceError(_) => 0,
+        Refusal::BadWordCount => 0,
+        Refusal::WrongCrc(_) => 0,
+        Refusal::BadScale => 0,
+        Refusal::BoardFull => 0,
+        Refusal::BadTotal => 0,
+        Refusal::BadTrailer => 0,
+        Refusal::BadKind => 0,
+        Refusal::WrongCount => 0,
     }
 }

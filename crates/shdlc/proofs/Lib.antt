@@ -1,6 +1,7 @@
 -- The laws of the definitions in specs/, a file for each subject.
 pub mod Stuffing
 pub mod Restuffed
+pub mod Fault
 pub mod Body
 pub mod Frame
 pub mod Stream

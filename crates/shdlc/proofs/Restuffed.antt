@@ -1,16 +1,16 @@
 -- What is unstuffed is stuffed again to the same bytes: a stretch that is no 3 or 4 has one wire form. Assumes nothing.
 use mathlib.Core.Path.{_≡_, refl, sym, ap, subst, _∙_}
 use mathlib.Core.Bool.{Bool, true, false, cond, _||_, false≢true}
-use mathlib.Core.List.{List, [], _∷_, _++_}
+use mathlib.Core.List.{List, [], _∷_}
 use mathlib.Core.Option.{Option, none, some}
-use Prim.Native.Nat.{ℕ}
+use Prim.Native.Nat.{ℕ, _+_}
 use native.Mathlib.Omega.{arith}
 use lib.Dec.{eqb}
 use borrow.Author.Tests.{eqb-true}
-use Rattle.refusal.specs.Refusals.{number, Answered, served, refused}
+use Rattle.refusal.specs.Refusals.{_carrying_, Answered, served, refused}
 use Rattle.refusal.proofs.Order.{refused-not-served}
 use Rattle.shdlc.specs.ReadBack.{Unbroken}
-use Rattle.shdlc.specs.Stuffing.{escapes, rightOf, leftOf, sent, stuffByte, stuff, isControl, prepend, meant, unstuff, unstuffEscaped}
+use Rattle.shdlc.specs.Stuffing.{escapes, rightOf, leftOf, sent, stuffByte, stuff, isControl, prepend, reportedPlace, meant, unstuffFrom, unstuffEscaped}
 
 served-same : (a b : List ℕ) → _≡_ {A = Answered (List ℕ)} (served a) (served b) → a ≡ b
 served-same a b e = cc
@@ -26,7 +26,7 @@ plain-sent b p q r = go (eqb b 0x11) (eqb b 0x13) refl refl r
     go false false e f h = simp (p, q, e, f)
 
 -- what was put before a body
-prepended : (b : ℕ) (a : Answered (List ℕ)) (body : List ℕ) → prepend b a ≡ served body
+pub prepended : (b : ℕ) (a : Answered (List ℕ)) (body : List ℕ) → prepend b a ≡ served body
     → (rest : List ℕ) × (a ≡ served rest) × (body ≡ b ∷ rest)
 unfolding prepend
 prepended b (served rest) body e = (rest, refl, sym (served-same (b ∷ rest) body e))
@@ -58,33 +58,37 @@ escaped-sent c b = go (eqb c 0x5E) (eqb c 0x5D) (eqb c 0x31) (eqb c 0x33) refl r
         absurd (omega arith)
 
 -- one byte more, where the rest is known
-byte-again : (b : ℕ) (s body : List ℕ) → eqb b 0x7E ≡ false → (x y : Bool) → eqb b 0x7D ≡ x → isControl b ≡ y
-    → ((rest : List ℕ) → unstuff s ≡ served rest → stuff rest ≡ s) → ((rest : List ℕ) → unstuffEscaped s ≡ served rest → stuff rest ≡ 0x7D ∷ s)
-    → cond x (unstuffEscaped s) (cond y (refused (number 4)) (prepend b (unstuff s))) ≡ served body → stuff body ≡ b ∷ s
+byte-again : (place b : ℕ) (s body : List ℕ) → eqb b 0x7E ≡ false → (x y : Bool) → eqb b 0x7D ≡ x → isControl b ≡ y
+    → ((rest : List ℕ) → unstuffFrom (place + 1) s ≡ served rest → stuff rest ≡ s)
+    → ((rest : List ℕ) → unstuffEscaped place s ≡ served rest → stuff rest ≡ 0x7D ∷ s)
+    → cond x (unstuffEscaped place s) (cond y (refused (4 carrying reportedPlace place)) (prepend b (unstuffFrom (place + 1) s))) ≡ served body
+    → stuff body ≡ b ∷ s
 unfolding stuff
-byte-again b s body u true y p q next escaped h = escaped body h ∙ ap (λ (x : ℕ). x ∷ s) (sym (eqb-true b 0x7D p))
-byte-again b s body u false true p q next escaped h = absurd (refused-not-served h)
-byte-again b s body u false false p q next escaped h =
-    let t = prepended b (unstuff s) body h in
+byte-again place b s body u true y p q next escaped h = escaped body h ∙ ap (λ (x : ℕ). x ∷ s) (sym (eqb-true b 0x7D p))
+byte-again place b s body u false true p q next escaped h = absurd (refused-not-served h)
+byte-again place b s body u false false p q next escaped h =
+    let t = prepended b (unstuffFrom (place + 1) s) body h in
     rw (t .2, plain-sent b u p q, next (t .0) (t .1))
 
-escaped-again : (c : ℕ) (s body : List ℕ) (o : Option ℕ) → leftOf escapes c ≡ o
-    → ((rest : List ℕ) → unstuff s ≡ served rest → stuff rest ≡ s) → meant o (unstuff s) ≡ served body → stuff body ≡ 0x7D ∷ c ∷ s
+escaped-again : (place c : ℕ) (s body : List ℕ) (o : Option ℕ) → leftOf escapes c ≡ o
+    → ((rest : List ℕ) → unstuffFrom (place + 2) s ≡ served rest → stuff rest ≡ s) → meant place o (unstuffFrom (place + 2) s) ≡ served body
+    → stuff body ≡ 0x7D ∷ c ∷ s
 unfolding stuff
-escaped-again c s body none f next h = absurd (refused-not-served h)
-escaped-again c s body (some b) f next h =
-    let t = prepended b (unstuff s) body h in
+escaped-again place c s body none f next h = absurd (refused-not-served h)
+escaped-again place c s body (some b) f next h =
+    let t = prepended b (unstuffFrom (place + 2) s) body h in
     rw (t .2, escaped-sent c b f, next (t .0) (t .1))
 
 mutual
-  unfolding unstuff unstuffEscaped stuff
+  unfolding unstuffFrom unstuffEscaped stuff
 
-  pub restuffed : (s : List ℕ) → Unbroken s → (body : List ℕ) → unstuff s ≡ served body → stuff body ≡ s
-  restuffed [] u body e = ap stuff (sym (served-same [] body e))
-  restuffed (b ∷ s) u body e =
-      byte-again b s body (u .0) (eqb b 0x7D) (isControl b) refl refl (λ rest h. restuffed s (u .1) rest h)
-      (λ rest h. restuffed-escaped s (u .1) rest h) e
+  pub restuffed : (place : ℕ) (s : List ℕ) → Unbroken s → (body : List ℕ) → unstuffFrom place s ≡ served body → stuff body ≡ s
+  restuffed place [] u body e = ap stuff (sym (served-same [] body e))
+  restuffed place (b ∷ s) u body e =
+      byte-again place b s body (u .0) (eqb b 0x7D) (isControl b) refl refl (λ rest h. restuffed (place + 1) s (u .1) rest h)
+      (λ rest h. restuffed-escaped place s (u .1) rest h) e
 
-  restuffed-escaped : (s : List ℕ) → Unbroken s → (body : List ℕ) → unstuffEscaped s ≡ served body → stuff body ≡ 0x7D ∷ s
-  restuffed-escaped [] u body e = absurd (refused-not-served e)
-  restuffed-escaped (c ∷ s) u body e = escaped-again c s body (leftOf escapes c) refl (λ rest h. restuffed s (u .1) rest h) e
+  restuffed-escaped : (place : ℕ) (s : List ℕ) → Unbroken s → (body : List ℕ) → unstuffEscaped place s ≡ served body → stuff body ≡ 0x7D ∷ s
+  restuffed-escaped place [] u body e = absurd (refused-not-served e)
+  restuffed-escaped place (c ∷ s) u body e =
+      escaped-again place c s body (leftOf escapes c) refl (λ rest h. restuffed (place + 2) s (u .1) rest h) e

@@ -129,4 +129,4 @@ one-wire kind [] u body e = let z : _≡_ {A = ℕ} 0 1 = ap length e in absurd 
 one-wire kind (b ∷ s) u body e =
     let both : judge kind (b ∷ s) ∷ [] ≡ served body ∷ [] = sym (stretch-items kind (b ∷ s) u (omega arith)) ∙ e in
     let one : judge kind (b ∷ s) ≡ served body = cc in
-    sym (restuffed (b ∷ s) u body (judged kind (unstuff (b ∷ s)) body one))
+    sym (restuffed 0 (b ∷ s) u body (judged kind (unstuff (b ∷ s)) body one))

@@ -9,8 +9,8 @@ use lib.Bits.{bitOr, bitXor}
 use lib.Dec.{eqb, ltb}
 use borrow.Author.Tests.{eqb-true}
 use lib.ListN.{length, getD, drop, length-append}
-use Rattle.refusal.specs.Refusals.{Answered, served, refused}
-use Rattle.shdlc.specs.Stuffing.{escapes, rightOf, leftOf, sent, stuffByte, stuff, isControl, prepend, meant, unstuff, unstuffEscaped}
+use Rattle.refusal.specs.Refusals.{served}
+use Rattle.shdlc.specs.Stuffing.{escapes, rightOf, sent, stuffByte, stuff, prepend, unstuffFrom, unstuff}
 use Rattle.refusal.proofs.Rest.{rest-here}
 use Rattle.refusal.proofs.Values.{same-at}
 
@@ -35,7 +35,7 @@ unfolding stuff
 stuff-short [] = omega arith
 stuff-short (b ∷ bytes) = rw length-append (omega (arith, byte-short b .1, stuff-short bytes))
 
-stuff-long : (bytes : List ℕ) → length bytes ≤ length (stuff bytes)
+pub stuff-long : (bytes : List ℕ) → length bytes ≤ length (stuff bytes)
 unfolding stuff
 stuff-long [] = omega arith
 stuff-long (b ∷ bytes) = rw length-append (omega (arith, byte-short b .0, stuff-long bytes))
@@ -103,13 +103,18 @@ stuff-same (b ∷ bytes) h =
     let rest : length (stuff bytes) ≤ length bytes = omega arith in
     rw (sent-by b false one, stuff-same bytes rest)
 
--- a byte that is sent comes back
-byte-back : (bytes : List ℕ) (b : ℕ) → unstuff (stuffByte b ++ bytes) ≡ prepend b (unstuff bytes)
-unfolding stuffByte unstuff
-byte-back bytes =
-    each-byte (λ b. unstuff (stuffByte b ++ bytes) ≡ prepend b (unstuff bytes)) refl refl refl refl (λ b p q r s. simp (p, q, r, s))
+-- a byte that is sent comes back, and the bytes after it stand where it ends
+byte-back : (place : ℕ) (bytes : List ℕ) (b : ℕ)
+    → unstuffFrom place (stuffByte b ++ bytes) ≡ prepend b (unstuffFrom (place + length (stuffByte b)) bytes)
+unfolding stuffByte unstuffFrom
+byte-back place bytes =
+    each-byte (λ b. unstuffFrom place (stuffByte b ++ bytes) ≡ prepend b (unstuffFrom (place + length (stuffByte b)) bytes)) refl refl refl refl
+    (λ b p q r s. simp (p, q, r, s))
+
+unstuff-from : (bytes : List ℕ) (place : ℕ) → unstuffFrom place (stuff bytes) ≡ served bytes
+unfolding stuff unstuffFrom prepend
+unstuff-from [] place = refl
+unstuff-from (b ∷ bytes) place = byte-back place (stuff bytes) b ∙ ap (prepend b) (unstuff-from bytes (place + length (stuffByte b)))
 
 pub unstuff-stuff : (bytes : List ℕ) → unstuff (stuff bytes) ≡ served bytes
-unfolding stuff unstuff prepend
-unstuff-stuff [] = refl
-unstuff-stuff (b ∷ bytes) = byte-back (stuff bytes) b ∙ ap (prepend b) (unstuff-stuff bytes)
+unstuff-stuff bytes = unstuff-from bytes 0

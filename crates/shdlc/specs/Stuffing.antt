@@ -1,10 +1,10 @@
 -- 01, Frames on the wire: byte stuffing, and back.
-use Prim.Native.Nat.{ℕ}
+use Prim.Native.Nat.{ℕ, _+_, min}
 use mathlib.Core.Bool.{Bool, cond, _||_}
 use mathlib.Core.List.{List, [], _∷_, _++_}
 use mathlib.Core.Option.{Option, none, some}
 use lib.Dec.{eqb}
-use Rattle.refusal.specs.Refusals.{number, Answered, served, refused}
+use Rattle.refusal.specs.Refusals.{_carrying_, Answered, served, refused}
 
 -- "7E becomes 7D 5E; 7D becomes 7D 5D; 11 becomes 7D 31; 13 becomes 7D 33. All else is sent as it is."
 abbrev pub escapes : List (ℕ × ℕ)
@@ -39,17 +39,29 @@ unfoldable pub prepend : ℕ → Answered (List ℕ) → Answered (List ℕ)
 prepend b (served body) = served (b ∷ body)
 prepend b (refused n) = refused n
 
+-- 02 (vii): "the place, counted from 0 in the stretch, of the 7D in refusal 3 and of the bare byte in refusal 4. Places over 65,535 are
+-- reported as 65,535."
+abbrev pub reportedPlace : ℕ → ℕ
+reportedPlace place = min place 65535
+
 -- row 3: "7D not followed by 5E, 5D, 31 or 33"
-abbrev pub meant : Option ℕ → Answered (List ℕ) → Answered (List ℕ)
-meant none body = refused (number 3)
-meant (some b) body = prepend b body
+abbrev pub meant : ℕ → Option ℕ → Answered (List ℕ) → Answered (List ℕ)
+meant place none body = refused (3 carrying reportedPlace place)
+meant place (some b) body = prepend b body
 
--- the bytes of a stretch unstuffed, or the earliest of 3 and 4; `unstuffEscaped` goes on after a 7D
+-- the bytes of a stretch from a place on unstuffed, or the earliest of 3 and 4; `unstuffEscaped` goes on after a 7D, which stands at
+-- the place
 unfoldable mutual
-  pub unstuff : List ℕ → Answered (List ℕ)
-  unstuff [] = served []
-  unstuff (b ∷ bytes) = cond (eqb b 0x7D) (unstuffEscaped bytes) (cond (isControl b) (refused (number 4)) (prepend b (unstuff bytes)))
+  pub unstuffFrom : ℕ → List ℕ → Answered (List ℕ)
+  unstuffFrom place [] = served []
+  unstuffFrom place (b ∷ bytes) =
+      cond (eqb b 0x7D) (unstuffEscaped place bytes)
+      (cond (isControl b) (refused (4 carrying reportedPlace place)) (prepend b (unstuffFrom (place + 1) bytes)))
 
-  pub unstuffEscaped : List ℕ → Answered (List ℕ)
-  unstuffEscaped [] = refused (number 3)
-  unstuffEscaped (b ∷ bytes) = meant (leftOf escapes b) (unstuff bytes)
+  pub unstuffEscaped : ℕ → List ℕ → Answered (List ℕ)
+  unstuffEscaped place [] = refused (3 carrying reportedPlace place)
+  unstuffEscaped place (b ∷ bytes) = meant place (leftOf escapes b) (unstuffFrom (place + 2) bytes)
+
+-- the bytes of a stretch unstuffed
+abbrev pub unstuff : List ℕ → Answered (List ℕ)
+unstuff bytes = unstuffFrom 0 bytes

@@ -129,7 +129,7 @@ fn stuffed_size(b: u8) -> usize
 }
 
 // How many bytes the bytes take once stuffed.
-fn stuffed_len(bytes: &[u8]) -> usize
+pub fn stuffed_len(bytes: &[u8]) -> usize
     ensures { λ r. ⌜ r ≡ length (stuff (now (bytes .entry))) ⌝ }
 {
     let mut n: usize = 0;

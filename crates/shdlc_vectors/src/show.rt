@@ -53,9 +53,15 @@ pub(crate) fn bytes(all: &[u8]) {
     }
 }
 
+// A refusal's number and, with 3 and 4, the place.
 pub(crate) fn refused(r: Refusal) {
+    let n = refusal::number(r);
     text(b" refused ");
-    decimal(refusal::number(r) as u64);
+    decimal(n as u64);
+    if n == 3 || n == 4 {
+        text(b" at ");
+        decimal(refusal::place(r) as u64);
+    }
 }
 
 pub(crate) fn flag(bit7: bool) {

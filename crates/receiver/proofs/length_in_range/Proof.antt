@@ -17,22 +17,22 @@ use Rattle.receiver.proofs.length_in_range.Statement.{statement}
 use Rattle.receiver.proofs.length_in_range.Tie as tie
 
 module _ (n : ℕ) where
-  over : (m : Mode) → 262 ≤ n → false ≡ lengthInRange m n
+  over : (m : Mode) → 65536 ≤ n → false ≡ lengthInRange m n
   over Outside h = sym (ne-eqb n 0 (λ e. omega arith))
-  over Plain h = sym (le-ltb n 262 h)
-  over Escaped h = sym (le-ltb n 262 h)
-  over BadEscape h = sym (le-ltb n 262 h)
-  over BareControl h = sym (le-ltb n 262 h)
+  over Plain h = sym (le-ltb n 65536 h)
+  over Escaped h = sym (le-ltb n 65536 h)
+  over BadEscape h = sym (le-ltb n 65536 h)
+  over BareControl h = sym (le-ltb n 65536 h)
 
-  inside : (m : Mode) → OneOf (1 ∷ 2 ∷ 3 ∷ 4 ∷ []) (tagOf the-type m) → n < 262 → true ≡ lengthInRange m n
+  inside : (m : Mode) → OneOf (1 ∷ 2 ∷ 3 ∷ 4 ∷ []) (tagOf the-type m) → n < 65536 → true ≡ lengthInRange m n
   inside Outside (inl e) h = absurd (omega arith)
   inside Outside (inr (inl e)) h = absurd (omega arith)
   inside Outside (inr (inr (inl e))) h = absurd (omega arith)
   inside Outside (inr (inr (inr e))) h = absurd (omega arith)
-  inside Plain o h = sym (lt-ltb n 262 h)
-  inside Escaped o h = sym (lt-ltb n 262 h)
-  inside BadEscape o h = sym (lt-ltb n 262 h)
-  inside BareControl o h = sym (lt-ltb n 262 h)
+  inside Plain o h = sym (lt-ltb n 65536 h)
+  inside Escaped o h = sym (lt-ltb n 65536 h)
+  inside BadEscape o h = sym (lt-ltb n 65536 h)
+  inside BareControl o h = sym (lt-ltb n 65536 h)
 
 empty : (m : Mode) → true ≡ lengthInRange m 0
 empty Outside = refl

@@ -18,7 +18,10 @@ push-spec =
     stood _ (c .stands .ensures)
     ∙ ap passing (sym (store-room (inStretch (a .kind) (a .len) (a .store .now)) (a .v) (c .before .if1 .taken))))
     (λ c κs. search needs)
+    (λ c κs. search needs)
     (λ c.
-    let a = c .before .before .before .args in
+    let p = c .before in
+    let a = p .before .before .before .args in
     stood _ (c .stands2 .ensures)
-    ∙ ap passing (sym (store-full (inStretch (a .kind) (a .len) (a .store .now)) (a .v) (c .before .if1 .left)))))
+    ∙ ap passing
+    (sym (store-full (inStretch (a .kind) (a .len) (a .store .now)) (a .v) (p .before .if1 .left) (p .before .before .before .pre .1) (p .past .ensures)))))

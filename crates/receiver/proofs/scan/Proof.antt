@@ -5,6 +5,7 @@ use Prim.Native.Nat.{ℕ, _≤_, _-_, _+_}
 use native.Mathlib.Omega.{arith}
 use mathlib.Core.Path.{_≡_, refl, sym, ap, _∙_}
 use mathlib.Core.List.{List, _∷_}
+use lib.Bits.{bitXor}
 use lib.ListN.{length, getD, drop, length-set}
 use Rattle.shdlc.specs.declared.Kind.{Kind}
 use Rattle.receiver.specs.declared.Mode.{Mode}
@@ -13,6 +14,7 @@ use Rattle.receiver.specs.declared.Receiver.{Receiver}
 use Rattle.receiver.specs.Record.{Record, held, numberOfMode, modeOf, Store, actOf}
 use Rattle.receiver.specs.Calls.{Scan, scanFrom}
 use Rattle.receiver.proofs.Modes.{mode-back, act-escape, act-control, act-plain, act-escaped, act-bad, act-none}
+use Rattle.receiver.proofs.Place.{came-as}
 use Rattle.receiver.proofs.Turns.{inStretch, turn-close, turn-open, turn-become, turn-store, turn-full, scan-next, scan-done, run-within, run-left}
 use Rattle.receiver.proofs.scan.Statement.{statement}
 use Rattle.receiver.proofs.scan.Tie as tie
@@ -170,12 +172,15 @@ loop-again-5 c =
 
 loop-again-6 : tie.Need-loop-again-6 Inv-loop μ-loop
 loop-again-6 c =
-    let k = c .before in
+    let k = c .before .before in
     let l = loop (at k) .loop in (
       search needs,
       l .inv .1,
       l .inv .2,
-      read (at k) (turn-full (l .i) (here (at k)) _ _ (no-end k) (byte k) (plain k) (c .if6 .left) ∙ same-mode _ _ _ _ _ _ (is-plain k)),
+      read (at k)
+          (turn-full (l .i) (here (at k)) _ _ (no-end k) (byte k) (plain k) (c .before .if6 .left)
+          (came-as (l .m) (byte k) (byte k) (no-end k) (is-plain k) (plain k)) (c .past .ensures)
+          ∙ same-mode _ _ _ _ _ _ (is-plain k)),
     )
 
 loop-again-7 : tie.Need-loop-again-7 Inv-loop μ-loop
@@ -193,15 +198,18 @@ loop-again-7 c =
 
 loop-again-8 : tie.Need-loop-again-8 Inv-loop μ-loop
 loop-again-8 c =
-    let k = c .before .before in
+    let o = c .before in
+    let k = o .before .before in
     let b = k .before .before .before .before in
-    let l = b .before .before .loop in (
+    let l = b .before .before .loop in
+    let no-end = k .before .before .before .if1 .left in
+    let v = bitXor (getD (piece b) (l .i) 0) 0x20 in
+    let stored : actOf (modeOf (l .m)) (getD (piece b) (l .i) 0) ≡ Store v =
+    act-escaped _ _ _ (k .before .if8 .taken) (k .is-escaped .ensures) (o .before .if9 .taken) in (
       search needs,
       l .inv .1,
       l .inv .2,
-      read b
-          (turn-full (l .i) (here b) _ _ (k .before .before .before .if1 .left) _
-          (act-escaped _ _ _ (k .before .if8 .taken) (k .is-escaped .ensures) (c .before .if9 .taken)) (c .if10 .left)),
+      read b (turn-full (l .i) (here b) _ _ no-end v stored (o .if10 .left) (came-as (l .m) _ v no-end (k .before .if8 .taken) stored) (c .past2 .ensures)),
     )
 
 loop-again-9 : tie.Need-loop-again-9 Inv-loop μ-loop
@@ -271,6 +279,7 @@ scan-spec =
     loop-again-4
     (λ c. omega arith)
     loop-again-5
+    (λ c κs. search needs)
     (λ c. omega arith)
     loop-again-6
     (λ c κs. search needs)
@@ -278,6 +287,7 @@ scan-spec =
     (λ c. omega arith)
     (λ c. omega arith)
     loop-again-7
+    (λ c κs. search needs)
     (λ c. omega arith)
     loop-again-8
     (λ c. omega arith)

@@ -11,6 +11,7 @@ use Rattle.receiver.specs.declared.Scanned.{Scanned}
 use Rattle.receiver.specs.Record.{held, numberOfMode, modeOf, Store, Become, actOf, acted, pendingIn}
 use Rattle.receiver.specs.Calls.{Scan, scannedAs, scanFrom}
 use Rattle.receiver.proofs.Modes.{mode-back, pending-by-number, act-escape, act-control, act-plain, act-escaped, act-bad, act-none}
+use Rattle.receiver.proofs.Place.{came-as}
 use Rattle.receiver.proofs.Turns.{inStretch, passing, standing, stood, store-any, turn-close, turn-open, turn-act, turn-become, scan-end}
 use Rattle.receiver.proofs.scan_one.Statement.{statement}
 use Rattle.receiver.proofs.scan_one.Tie as tie
@@ -75,7 +76,13 @@ scan-one-spec =
     let e = k .before .before .before in
     becomes _ (e .before .mode-number .ensures) _ _ (e .if1 .left) BareControl (c .stands3 .ensures)
     (act-control _ _ (k .before .before .if3 .taken) (k .before .if4 .left) (sym (k .is-control .ensures) ∙ c .before .if5 .taken)))
-    (λ c κs. search needs)
+    (λ c κs.
+    let k = c .before .before in
+    let e = k .before .before .before in (
+      search needs,
+      came-as _ _ _ (e .if1 .left) (k .before .before .if3 .taken)
+          (act-plain _ _ (k .before .before .if3 .taken) (k .before .if4 .left) (sym (k .is-control .ensures) ∙ c .before .if5 .left)),
+    ))
     (λ c. search needs)
     (λ c.
     let p = c .before .before in
@@ -84,7 +91,13 @@ scan-one-spec =
     keeps _ (e .before .mode-number .ensures) _ _ (e .if1 .left) _ (p .push .ensures)
     (act-plain _ _ (k .before .before .if3 .taken) (k .before .if4 .left) (sym (k .is-control .ensures) ∙ p .before .before .if5 .left)))
     (λ c κs. search needs)
-    (λ c κs. search needs)
+    (λ c κs.
+    let k = c .before .before in
+    let e = k .before .before .before in (
+      search needs,
+      came-as _ _ _ (e .if1 .left) (k .before .if6 .taken)
+          (act-escaped _ _ _ (k .before .if6 .taken) (k .is-escaped .ensures) (c .before .if7 .taken)),
+    ))
     (λ c. search needs)
     (λ c.
     let p = c .before .before in

@@ -22,6 +22,9 @@ of-answer-spec =
     (λ c. search needs)
     (λ c. search needs)
     (λ c κs. search needs)
+    (λ c κs. search needs)
     (λ c. told (of _) (c .enum-told .given .1) refl)
     (λ c. told (of _) (c .before .answer .given .1) refl)
-    (λ c. told (of _) (c .before .before .answer2 .given .1) (fed-refused (c .before .before .answer2 .given .0 .0) _ (c .number .ensures))))
+    (λ c.
+    let n = c .before in
+    told (of _) (n .before .before .answer2 .given .1) (fed-refused (n .before .before .answer2 .given .0 .0) _ (n .number .ensures) (c .place .ensures))))
