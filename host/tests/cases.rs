@@ -169,6 +169,12 @@ pub enum Step {
         room: usize,
         again: bool,
     },
+    /// The bytes in pieces of a size, each rest again; the record is compared after the last alone. The reference looks
+    /// at the whole stretch for each record, and takes five seconds for those of 65,535 bytes one by one.
+    Parts {
+        bytes: Hex,
+        widest: usize,
+    },
     Mark,
 }
 
@@ -176,6 +182,9 @@ impl Smaller for Step {
     fn smaller(&self) -> Vec<Step> {
         match self {
             Step::Mark => Vec::new(),
+            Step::Parts { bytes, widest } => {
+                bytes.smaller().into_iter().map(|bytes| Step::Parts { bytes, widest: *widest }).collect()
+            }
             Step::Feed { piece, room, again } => {
                 let with = |piece: Hex, room: usize, again: bool| Step::Feed { piece, room, again };
                 let pieces = piece.smaller().into_iter().map(|smaller| with(smaller, *room, *again));
@@ -229,13 +238,13 @@ impl Running {
         let found = self.library.silence(self.record.slice());
         self.events.push(Event::Mark);
         if found == 9 {
-            self.gained.push(Item::Refused(9));
+            self.gained.push(Item::Refused(9, 0));
         }
         same("silence answers", &expected, &found)?;
         self.same_record()
     }
 
-    /// One feeding call; answers how many bytes it took.
+    /// One feeding call, its record not yet compared; answers how many bytes it took.
     fn feed(&mut self, piece: &[u8], room: usize) -> Result<usize, String> {
         self.salt = self.salt.wrapping_add(7);
         let mut expected_frame: Lent<u8> = Lent::room(room, self.salt);
@@ -250,7 +259,6 @@ impl Running {
         };
         let found = self.library.feed(self.record.slice(), lent_piece.contents(), frame.slice());
         same("feed answers", &expected, &found)?;
-        self.same_record()?;
         let buffers = [("frame", expected_frame, frame.clone()), ("piece", expected_piece, lent_piece)];
         for (name, expected, found) in buffers {
             if let Some(text) = expected.difference(&found) {
@@ -261,7 +269,7 @@ impl Running {
         if found.frame_length > 0 {
             self.gained.push(Item::Frame(frame.contents()[..found.frame_length].to_vec()));
         } else if found.refusal > 1 {
-            self.gained.push(Item::Refused(found.refusal));
+            self.gained.push(Item::Refused(found.refusal, found.place));
         }
         Ok(found.taken)
     }
@@ -273,11 +281,21 @@ impl Running {
                 let mut rest = &piece.0[..];
                 loop {
                     let taken = self.feed(rest, *room)?;
+                    self.same_record()?;
                     rest = &rest[taken..];
                     if rest.is_empty() || !again || *room < STORE {
                         return Ok(());
                     }
                 }
+            }
+            Step::Parts { bytes, widest } => {
+                for part in bytes.0.chunks(*widest) {
+                    let mut rest = part;
+                    while !rest.is_empty() {
+                        rest = &rest[self.feed(rest, STORE)?..];
+                    }
+                }
+                self.same_record()
             }
         }
     }
@@ -312,7 +330,11 @@ impl Series {
 
 impl Case for Series {
     fn calls(&self) -> u64 {
-        1 + self.steps.len() as u64
+        let calls = |step: &Step| match step {
+            Step::Parts { bytes, widest } => bytes.0.len().div_ceil(*widest) as u64,
+            _ => 1,
+        };
+        1 + self.steps.iter().map(calls).sum::<u64>()
     }
 
     fn fault(&self) -> Option<String> {

@@ -398,6 +398,103 @@ fn largest_section(section: &mut Section) {
     }
 }
 
+/// Refusals and places in a stream that is cut into pieces of a size, by the library alone.
+fn refusals_by_library(kind: u8, stream: &[u8], widest: usize) -> Vec<(u8, u16)> {
+    let library = Library { null_for_empty: false };
+    let (mut record, mut buffer, mut all) = ([0; RECORD], [0; STORE], Vec::new());
+    library.receiver_fresh(kind, &mut record);
+    for piece in stream.chunks(widest) {
+        let mut rest = piece;
+        while !rest.is_empty() {
+            let fed = library.feed(&mut record, rest, &mut buffer);
+            if (fed.refusal, fed.place) != (0, 0) {
+                all.push((fed.refusal, fed.place));
+            }
+            // Nothing taken of a piece that is not empty: no receiver does that, and this loop must end.
+            rest = if fed.taken == 0 { &[] } else { rest.get(fed.taken..).unwrap_or(&[]) };
+        }
+    }
+    all
+}
+
+/// A stream with a fault that was put at a known place, so that the expected answer is not the reference's.
+struct Put {
+    kind: u8,
+    number: u8,
+    place: usize,
+    escapes: generate::Escapes,
+    stream: Vec<u8>,
+}
+
+impl Put {
+    /// Each of the places with each fault, each share of escapes before it, and both kinds.
+    fn each(section: &mut Section, places: &[usize], mut body: impl FnMut(&mut Section, &Put)) {
+        for &place in places {
+            for (number, fault) in generate::FAULTS {
+                for escapes in generate::ESCAPES {
+                    for kind in 0..2 {
+                        let stream = generate::faulty(&mut section.random, place, escapes, fault);
+                        body(section, &Put { kind, number, place, escapes, stream });
+                    }
+                }
+            }
+        }
+    }
+
+    /// The library gives the fault's refusal with its place, and nothing else.
+    fn told(&self, section: &mut Section, widest: usize) {
+        let Put { kind, number, place, escapes, stream } = self;
+        let what = format!("{number} at {place} in pieces of {widest}, kind {kind}, escapes before it: {escapes:?}");
+        let expected = vec![(*number, (*place).min(65_535) as u16)];
+        section.expect(&what, expected, refusals_by_library(*kind, stream, widest));
+    }
+
+    /// The stream up to a cut and then the rest, each in pieces of a size; in the rest each record is compared.
+    fn cut_at(&self, cut: usize, before: usize, after: usize) -> Series {
+        let (first, rest) = self.stream.split_at(cut);
+        let mut steps = vec![Step::Parts { bytes: Hex(first.to_vec()), widest: before }];
+        steps.extend(rest.chunks(after).map(feed));
+        Series { kind: self.kind, steps, salt: cut as u32 }
+    }
+}
+
+/// Faults around the sizes of a body and of its escapes: the place itself, then every record on the way to it.
+fn places_section(section: &mut Section) {
+    let places: Vec<usize> = (0..4).chain(258..264).chain(518..524).collect();
+    Put::each(section, &places, |section, put| {
+        for widest in [1, 16, put.stream.len()] {
+            put.told(section, widest);
+            let steps = put.stream.chunks(widest).map(feed).collect();
+            section.check(Series { kind: put.kind, steps, salt: widest as u32 });
+        }
+        for cut in put.place.saturating_sub(2)..(put.place + 5).min(put.stream.len()) {
+            section.check(put.cut_at(cut, STORE, put.stream.len()));
+        }
+    });
+}
+
+/// Faults around the last place that is told, around the end of the length in a record, and far past both.
+fn far_places_section(section: &mut Section) {
+    let places: Vec<usize> = (65_533..=65_537).chain([65_795, 70_000, 200_000]).collect();
+    let mut turn = 0;
+    Put::each(section, &places, |section, put| {
+        for widest in if put.kind == 0 { [1, 4096] } else { [16, put.stream.len()] } {
+            put.told(section, widest);
+        }
+        // Then against the reference, which takes longer: one way of cutting for each, and few with many calls.
+        turn += 1;
+        let cut = section.random.between(put.place - 2, put.place + 2);
+        let before = match turn % 199 {
+            0 => 1,
+            1..=9 => 16,
+            10..=99 => 4096,
+            _ => cut,
+        };
+        let after = if turn % 12 == 0 { 1 } else { 70_000 };
+        section.check(put.cut_at(cut, before, after));
+    });
+}
+
 /// One call on a record of any kind: those that a stream leaves, and those out of range.
 fn records_section(section: &mut Section) {
     for _ in 0..section.times(250_000) {
@@ -422,12 +519,34 @@ fn records_section(section: &mut Section) {
     }
 }
 
-/// Every kind and mode around their ranges with every length around its own, and every value of each field alone.
+/// Records in a stretch with the length around the store's and around its own end; stored bytes of which none, all or
+/// some were received as two; then plain bytes or escapes, and then nothing, an end or a fault.
+fn lengths_section(section: &mut Section) {
+    let stores: [&[u8]; 3] = [&[0x00], &[0x7E, 0x7D, 0x11, 0x13], &generate::STUFFING_BYTES];
+    let between: [&[u8]; 6] = [&[], &[0x00], &[0x5E], &[0x7D, 0x5D], &[0x00, 0x7D, 0x31], &[0x33, 0x7D, 0x33, 0x00]];
+    let ends: [&[u8]; 6] = [&[], &[0x7E], &[0x11, 0x7E], &[0x7D, 0x7E], &[0x7D, 0x41, 0x7E], &[0x13, 0x7D, 0x11]];
+    let lengths = (0..3).chain(258..264).chain(65_273..65_278).chain(65_532..=65_535);
+    for length in lengths {
+        for (mode, store) in (1..5).flat_map(|mode| stores.map(|store| (mode, store))) {
+            let kind = section.random.below(2) as u8;
+            let mut record = vec![kind, mode, (length >> 8) as u8, length as u8];
+            record.extend(store.iter().cycle().take(STORE));
+            for (bytes, end) in between.iter().flat_map(|bytes| ends.map(|end| (bytes, end))) {
+                let (record, piece) = (Hex(record.clone()), Hex([*bytes, end].concat()));
+                section.check(Feed { record, piece, room: 260, salt: length as u32 });
+            }
+            section.check(Silence { record: Hex(record), salt: length as u32 });
+        }
+    }
+}
+
+/// Every kind and mode around their ranges with every length around its own, and every value of each field alone. In a
+/// stretch no length is out of range, in noise all but 0.
 fn ranges_section(section: &mut Section) {
     let pieces: [&[u8]; 6] = [&[], &[0x7E], &[0x00], &[0x5E, 0x7E], &[0x7D, 0x7E], &[0x11]];
     for kind in 0..3 {
         for mode in 0..6 {
-            for length in (0..12).chain(250..270).chain([511, 512, 517, 0xFF00, 0xFFFF]) {
+            for length in (0..12).chain(250..270).chain([511, 512, 517, 0xFF00, 0xFFFD, 0xFFFE, 0xFFFF]) {
                 let mut record = generate::wire_bytes(&mut section.random, RECORD);
                 record[..4].copy_from_slice(&[kind, mode, (length >> 8) as u8, length as u8]);
                 for piece in pieces {
@@ -742,7 +861,10 @@ fn main() {
     report.section("receiver: every cut", cuts_section);
     report.section("receiver: long pieces", long_pieces_section);
     report.section("receiver: bodies of 256 to 263 bytes", largest_section);
+    report.section("receiver: places of faults", places_section);
+    report.section("receiver: places past 65,535", far_places_section);
     report.section("receiver: records", records_section);
+    report.section("receiver: lengths of a record", lengths_section);
     report.section("receiver: ranges of a record", ranges_section);
     report.section("requests written and read back", requests_round_trip);
     report.section("replies written and read back", replies_round_trip);

@@ -321,7 +321,7 @@ fn stream_part(random: &mut Random, kind: Kind) -> Vec<u8> {
     }
 }
 
-/// A stretch around the largest sizes, often whole and good, else with one fault at any place, also past the store.
+/// A stretch around the largest sizes, often good, else with a fault or two at any place, also past the store.
 fn long_part(random: &mut Random, kind: Kind) -> Vec<u8> {
     let size = match random.below(4) {
         0 => random.between(250, 270),
@@ -330,16 +330,87 @@ fn long_part(random: &mut Random, kind: Kind) -> Vec<u8> {
     };
     let body = sized_body(random, kind, size);
     let mut part = wire(&body);
-    match random.below(4) {
+    match random.below(5) {
         0 => part.insert(random.between(1, part.len() - 1), random.pick(&[0x11, 0x13])),
         1 => part.insert(random.between(1, part.len() - 1), ESCAPE),
         2 => {
+            for _ in 0..2 {
+                part.insert(random.between(1, part.len() - 1), random.pick(&[0x11, 0x13, ESCAPE]));
+            }
+        }
+        3 => {
             let near_end = part.len() - 1 - random.below(12);
             part.insert(near_end, random.pick(&STUFFING_BYTES));
         }
         _ => {}
     }
     part
+}
+
+/// What refusals 3 and 4 are given for; the 7D alone is one where nothing follows it in its stretch.
+pub const FAULTS: [(u8, &[u8]); 6] =
+    [(3, &[ESCAPE, 0x41]), (3, &[ESCAPE, 0x11]), (3, &[ESCAPE, ESCAPE]), (3, &[ESCAPE]), (4, &[0x11]), (4, &[0x13])];
+
+/// How many of the bytes before a fault are escaped.
+#[derive(Clone, Copy, Debug)]
+pub enum Escapes {
+    None,
+    First,
+    Last,
+    Some,
+    All,
+}
+
+pub const ESCAPES: [Escapes; 5] = [Escapes::None, Escapes::First, Escapes::Last, Escapes::Some, Escapes::All];
+
+/// An escape of the stuffing rule.
+fn escape(random: &mut Random) -> [u8; 2] {
+    [ESCAPE, random.pick(&[0x5E, 0x5D, 0x31, 0x33])]
+}
+
+/// Exactly so many raw bytes without a fault. Plain ones are often such as follow a 7D elsewhere.
+fn faultless(random: &mut Random, length: usize, escapes: Escapes) -> Vec<u8> {
+    const PLAIN: [u8; 8] = [0x00, 0x5E, 0x5D, 0x31, 0x33, 0x10, 0x7F, 0xFF];
+    let plain = random.pick(&PLAIN);
+    let mut bytes = Vec::with_capacity(length);
+    while bytes.len() < length {
+        let escaped = length - bytes.len() > 1
+            && match escapes {
+                Escapes::None => false,
+                Escapes::First => bytes.is_empty(),
+                Escapes::Last => length - bytes.len() == 2,
+                Escapes::Some => random.one_in(3),
+                Escapes::All => true,
+            };
+        if escaped {
+            bytes.extend(escape(random));
+        } else {
+            bytes.push(plain);
+        }
+    }
+    bytes
+}
+
+/// What may follow a fault up to the 7E and changes nothing: some bytes or none, and at times a second fault.
+fn after_fault(random: &mut Random) -> Vec<u8> {
+    let n = random.pick(&[0, 0, 1, 2, 12]);
+    let mut bytes = faultless(random, n, Escapes::Some);
+    if random.one_in(2) {
+        bytes.extend(random.pick(&FAULTS).1);
+    }
+    bytes
+}
+
+/// A stretch between two 7E with the fault at a place, and often a second one behind it.
+pub fn faulty(random: &mut Random, place: usize, escapes: Escapes, fault: &[u8]) -> Vec<u8> {
+    let mut stream = vec![DELIMITER];
+    stream.extend(faultless(random, place, escapes));
+    stream.extend(fault);
+    if fault != [ESCAPE] {
+        stream.extend(after_fault(random));
+    }
+    stream.push(DELIMITER);
+    stream
 }
 
 /// A room for the frame: mostly as required, at times too short or long.
@@ -399,10 +470,14 @@ pub fn record(random: &mut Random) -> Vec<u8> {
     };
     let mut record = some_bytes(random, size.max(4));
     let mode = random.below(5) as u8;
-    let length = match (mode, random.below(4)) {
+    // The reference makes up as many bytes as a length past the store's says, so large ones are few here and below.
+    let length = match (mode, random.below(100)) {
         (0, _) => 0,
-        (_, 0) => random.below(262),
-        (_, 1) => random.between(255, 261),
+        (_, 0) if random.one_in(2) => random.below(65_536),
+        (_, 0) if random.one_in(2) => random.between(65_270, 65_535),
+        (_, 0..=9) => random.between(261, 1000),
+        (_, 10..=29) => random.below(262),
+        (_, 30..=49) => random.between(255, 265),
         _ => random.below(9),
     };
     record[0] = random.below(2) as u8;
@@ -412,7 +487,8 @@ pub fn record(random: &mut Random) -> Vec<u8> {
     make_good(random, &mut record, length);
     if random.one_in(6) {
         let at = random.below(4);
-        record[at] = random.byte();
+        let high = at == 2 && !random.one_in(16);
+        record[at] = if high { random.below(4) as u8 } else { random.byte() };
     }
     record.truncate(size);
     record

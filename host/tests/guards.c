@@ -55,6 +55,8 @@ mfc_words mfc_log_check(const uint8_t *file, size_t length);
 mfc_words mfc_log_list(const uint8_t *file, size_t length, size_t skip, uint16_t *rows, size_t room);
 
 _Static_assert(offsetof(mfc_reply, value) == 4, "four bytes stand before the value");
+_Static_assert(offsetof(mfc_fed, place) == 2 && offsetof(mfc_fed, frame_length) == sizeof(size_t),
+               "the place of a fault stands between the refusal and the lengths");
 _Static_assert(offsetof(mfc_register, value) == 2, "the register's value follows the refusal");
 _Static_assert(sizeof(mfc_quantity) == 8, "a refusal and a float");
 _Static_assert(sizeof(mfc_entry) == 6 && offsetof(mfc_entry, left) == 4, "three bytes, a free one, and the polls left");
@@ -282,11 +284,15 @@ static mfc_fed feed(uint8_t *record, const uint8_t *contents, size_t n, uint8_t 
     if (fed.taken > n || fed.frame_length > room) {
         fail("more than was lent");
     }
+    if (fed.place != 0 && fed.refusal != MFC_REFUSAL_BAD_ESCAPE && fed.refusal != MFC_REFUSAL_BARE_CONTROL) {
+        fail("a place without a fault");
+    }
     memcpy(record, kept.bytes, MFC_RECORD_SIZE);
     if (fed.frame_length > 0) {
         memcpy(copy, frame.bytes, fed.frame_length);
     }
     fold(fed.refusal);
+    fold(fed.place);
     fold(fed.frame_length);
     fold(fed.taken);
     take_back(kept);
@@ -702,6 +708,22 @@ static void receive(const uint8_t *stream, size_t length)
     silence(record, 0);
 }
 
+/* A record in a stretch of any length: the bytes that it counts past the store are not there to be read. */
+static void far_along(void)
+{
+    static const uint8_t ends[][3] = {{0x00, 0x00, 0x7E}, {0x00, 0x11, 0x7E}, {0x5E, 0x7D, 0x7E}, {0x7D, 0x41, 0x7E}};
+    uint8_t record[MFC_RECORD_SIZE], frame[MFC_FRAME_ROOM];
+    wire_bytes(record, sizeof record);
+    record[0] = (uint8_t)below(2);
+    record[1] = (uint8_t)(1 + below(4));
+    record[2] = below(2) ? (uint8_t)any() : below(2) ? 0x01 : 0xFF;
+    record[3] = (uint8_t)any();
+    feed(record, ends[below(4)], 3, frame, MFC_FRAME_ROOM);
+    record[1] = (uint8_t)(1 + below(4));
+    record[2] = (uint8_t)any();
+    silence(record, MFC_RECORD_SIZE);
+}
+
 static void one_round(void)
 {
     uint8_t stream[2048];
@@ -722,6 +744,9 @@ static void one_round(void)
         stream[length++] = 0x7E;
         memset(stream + length, (int)below(16), n);
         length += n;
+        if (below(2)) {
+            stream[length++] = wire_byte();
+        }
         stream[length++] = 0x7E;
     }
     receive(stream, length);
@@ -729,6 +754,7 @@ static void one_round(void)
     size_t n = below(4) ? below(20) : below(sizeof noise);
     wire_bytes(noise, n);
     receive(noise, n);
+    far_along();
     read_bodies(noise, n);
     words(below(8), below(9), below(2) == 0);
     words(below(64), below(64), 0);

@@ -32,11 +32,12 @@ pub struct Reply {
     pub text_length: usize,
 }
 
-/// What one feeding call gave.
+/// What one feeding call gave; the place is that of the fault with refusals 3 and 4, else 0.
 #[repr(C)]
 #[derive(Clone, Copy, Debug, Default, PartialEq, Eq)]
 pub struct Fed {
     pub refusal: u8,
+    pub place: u16,
     pub frame_length: usize,
     pub taken: usize,
 }

@@ -73,29 +73,44 @@ pub enum End {
     Fault(u8),
 }
 
-/// The bytes before the earliest fault, or all of them, and how the stretch ends. A 7D that is last is not yet a fault:
-/// what comes next decides.
-pub fn unstuffed(raw: &[u8]) -> (Vec<u8>, End) {
+/// What the raw bytes of a stretch come to.
+pub struct Unstuffed {
+    /// The bytes before the earliest fault, or all of them.
+    pub bytes: Vec<u8>,
+    /// The number of raw bytes that these came as: the place of the fault, of a 7D that is last, or of the end.
+    pub place: usize,
+    /// The same for the first of them, as many as a record stores.
+    pub stored: usize,
+    /// A 7D that is last is not yet a fault: what comes next decides.
+    pub end: End,
+}
+
+pub fn unstuffed(raw: &[u8]) -> Unstuffed {
     let mut bytes = Vec::with_capacity(raw.len());
-    let mut rest = raw;
-    loop {
-        rest = match rest {
-            [] => return (bytes, End::Whole),
-            [ESCAPE] => return (bytes, End::Escape),
+    let (mut rest, mut stored) = (raw, 0);
+    let end = loop {
+        let (byte, tail) = match rest {
+            [] => break End::Whole,
+            [ESCAPE] => break End::Escape,
             [ESCAPE, second, tail @ ..] => match STUFFING.iter().find(|(_, after)| after == second) {
-                Some((special, _)) => {
-                    bytes.push(*special);
-                    tail
-                }
-                None => return (bytes, End::Fault(3)),
+                Some((special, _)) => (*special, tail),
+                None => break End::Fault(3),
             },
-            [0x11, ..] | [0x13, ..] => return (bytes, End::Fault(4)),
-            [byte, tail @ ..] => {
-                bytes.push(*byte);
-                tail
-            }
+            [0x11, ..] | [0x13, ..] => break End::Fault(4),
+            [byte, tail @ ..] => (*byte, tail),
+        };
+        bytes.push(byte);
+        rest = tail;
+        if bytes.len() <= STORE {
+            stored = raw.len() - rest.len();
         }
-    }
+    };
+    Unstuffed { bytes, place: raw.len() - rest.len(), stored, end }
+}
+
+/// 02 (vii): "Places over 65,535 are reported as 65,535."
+pub fn reported(place: usize) -> u16 {
+    u16::try_from(place).unwrap_or(u16::MAX)
 }
 
 #[derive(Clone, Copy, Debug, PartialEq, Eq)]
@@ -135,23 +150,23 @@ pub enum Event {
     Mark,
 }
 
+/// A frame, or a refusal and the place that it carries: 0 with all but 3 and 4, as in the C answer.
 #[derive(Clone, Debug, PartialEq, Eq)]
 pub enum Item {
     Frame(Vec<u8>),
-    Refused(u8),
+    Refused(u8, u16),
 }
 
 /// The item of a non-empty stretch that a 7E has ended.
 pub fn judged(kind: Kind, raw: &[u8]) -> Item {
-    let (body, end) = unstuffed(raw);
-    let refusal = match end {
-        End::Fault(number) => number,
-        End::Escape => 3,
-        End::Whole => body_refusal(kind, &body),
-    };
-    match refusal {
-        0 => Item::Frame(body),
-        number => Item::Refused(number),
+    let whole = unstuffed(raw);
+    match whole.end {
+        End::Fault(number) => Item::Refused(number, reported(whole.place)),
+        End::Escape => Item::Refused(3, reported(whole.place)),
+        End::Whole => match body_refusal(kind, &whole.bytes) {
+            0 => Item::Frame(whole.bytes),
+            number => Item::Refused(number, 0),
+        },
     }
 }
 
@@ -162,7 +177,7 @@ pub fn items(kind: Kind, events: &[Event]) -> Vec<Item> {
     let stretches = cuts.windows(2).filter(|pair| events[pair[0]] != Event::Mark && pair[1] > pair[0] + 1);
     stretches
         .map(|pair| match events[pair[1]] {
-            Event::Mark => Item::Refused(9),
+            Event::Mark => Item::Refused(9, 0),
             Event::Byte(_) => judged(kind, &raw_bytes(&events[pair[0] + 1..pair[1]])),
         })
         .collect()
@@ -178,8 +193,6 @@ fn raw_bytes(events: &[Event]) -> Vec<u8> {
 
 pub const STORE: usize = 260;
 pub const RECORD: usize = 264;
-/// The length that stands for every length over the store's.
-const OVER: usize = STORE + 1;
 
 /// What a receiver has heard: the raw bytes since the last 7E (none in noise), and what the stretches that ended left
 /// in the store.
@@ -199,32 +212,34 @@ impl Heard {
     fn store(&self) -> [u8; STORE] {
         let mut store = self.left;
         if let Some(raw) = &self.stretch {
-            let (bytes, _) = unstuffed(raw);
+            let bytes = unstuffed(raw).bytes;
             let kept = bytes.len().min(STORE);
             store[..kept].copy_from_slice(&bytes[..kept]);
         }
         store
     }
 
-    /// The record of the C interface: kind, mode, length (high, low), store.
+    /// The record of the C interface: kind, mode, length (high, low), store. The length counts the stored bytes, then
+    /// the raw bytes that those past the store came as, up to 65,535.
     pub fn record(&self) -> [u8; RECORD] {
-        let (mode, length) = match &self.stretch {
+        let (mode, length) = match self.stretch.as_deref().map(unstuffed) {
             None => (0, 0),
-            Some(raw) => match unstuffed(raw) {
-                (bytes, End::Whole) => (1, bytes.len()),
-                (bytes, End::Escape) => (2, bytes.len()),
-                (bytes, End::Fault(number)) => (number, bytes.len()),
-            },
+            Some(so_far) => {
+                let mode = match so_far.end {
+                    End::Whole => 1,
+                    End::Escape => 2,
+                    End::Fault(number) => number,
+                };
+                (mode, so_far.bytes.len().min(STORE) + so_far.place - so_far.stored)
+            }
         };
-        let length = length.min(OVER);
         let mut record = [0; RECORD];
         record[0] = match self.kind {
             Kind::Request => 0,
             Kind::Reply => 1,
         };
         record[1] = mode;
-        record[2] = (length / 256) as u8;
-        record[3] = (length % 256) as u8;
+        record[2..4].copy_from_slice(&reported(length).to_be_bytes());
         record[4..].copy_from_slice(&self.store());
         record
     }
@@ -236,15 +251,15 @@ impl Heard {
         }
         let (kind, mode) = (record[0], record[1]);
         let length = usize::from(record[2]) * 256 + usize::from(record[3]);
-        if kind > 1 || mode > 4 || length > OVER || (mode == 0 && length > 0) {
+        if kind > 1 || mode > 4 || (mode == 0 && length > 0) {
             return None;
         }
         let mut left = [0; STORE];
         left.copy_from_slice(&record[4..RECORD]);
         let mut raw = stuffed(&left[..length.min(STORE)]);
-        if length == OVER {
-            raw.push(0);
-        }
+        // Past the store only the number of raw bytes is kept, so any do. 65,535 stands for more of them too: a fault
+        // behind as many as it says is at 65,535 or past it already.
+        raw.resize(raw.len() + length.saturating_sub(STORE), 0);
         raw.extend_from_slice(match mode {
             2 => &[ESCAPE],
             3 => &[ESCAPE, 0x41],
@@ -276,7 +291,7 @@ impl Heard {
         if cut.is_empty() {
             None
         } else {
-            Some(Item::Refused(9))
+            Some(Item::Refused(9, 0))
         }
     }
 
@@ -296,11 +311,11 @@ impl Heard {
 /// A feeding call's answer for the item it gained; a frame is put at the start of the lent buffer.
 pub fn answer_of(taken: usize, item: Option<Item>, frame: &mut [u8]) -> Fed {
     match item {
-        None => Fed { refusal: 0, frame_length: 0, taken },
-        Some(Item::Refused(refusal)) => Fed { refusal, frame_length: 0, taken },
+        None => Fed { taken, ..Fed::default() },
+        Some(Item::Refused(refusal, place)) => Fed { refusal, place, frame_length: 0, taken },
         Some(Item::Frame(body)) => {
             frame[..body.len()].copy_from_slice(&body);
-            Fed { refusal: 0, frame_length: body.len(), taken }
+            Fed { frame_length: body.len(), taken, ..Fed::default() }
         }
     }
 }

@@ -12,7 +12,7 @@ pub fn both() -> [(&'static str, &'static dyn Interface); 2] {
     [("reference", &Reference), ("library", &LIBRARY)]
 }
 
-/// Events from text: bytes in hex, M for a mark, 41*255 for a byte many times.
+/// Events from text: bytes in hex, M for a mark, 41*255 or 7D5E*260 for one or more bytes many times.
 fn events(text: &str) -> Vec<Event> {
     let mut all = Vec::new();
     for part in text.split_whitespace() {
@@ -20,10 +20,10 @@ fn events(text: &str) -> Vec<Event> {
             all.push(Event::Mark);
             continue;
         }
-        let (byte, times) = part.split_once('*').unwrap_or((part, "1"));
-        let byte = u8::from_str_radix(byte, 16).expect("a byte in hex");
-        let times = times.parse().expect("a count");
-        all.extend(std::iter::repeat(Event::Byte(byte)).take(times));
+        let (digits, times) = part.split_once('*').unwrap_or((part, "1"));
+        let byte = |at| u8::from_str_radix(&digits[at..at + 2], 16).expect("a byte in hex");
+        let bytes: Vec<Event> = (0..digits.len()).step_by(2).map(|at| Event::Byte(byte(at))).collect();
+        all.extend(bytes.repeat(times.parse().expect("a count")));
     }
     all
 }
@@ -36,13 +36,15 @@ pub fn hex(text: &str) -> Vec<u8> {
     events(text).into_iter().map(byte).collect()
 }
 
-/// Items as text: F for a frame, a number for a refusal.
+/// Items as text: F for a frame, a number for a refusal, 4@0 for one with a place.
 fn told(items: &[Item]) -> String {
     let names: Vec<String> = items
         .iter()
         .map(|item| match item {
             Item::Frame(_) => "F".to_string(),
-            Item::Refused(number) => number.to_string(),
+            Item::Refused(number @ (3 | 4), place) => format!("{number}@{place}"),
+            Item::Refused(number, 0) => number.to_string(),
+            Item::Refused(number, place) => format!("{number} with a place {place}"),
         })
         .collect();
     names.join(" ")
@@ -56,7 +58,7 @@ fn received(on: &dyn Interface, kind: u8, events: &[Event], widest: usize) -> Ve
     while let Some(event) = rest.first() {
         if *event == Event::Mark {
             if on.silence(&mut record) == 9 {
-                items.push(Item::Refused(9));
+                items.push(Item::Refused(9, 0));
             }
             rest = &rest[1..];
             continue;
@@ -70,7 +72,7 @@ fn received(on: &dyn Interface, kind: u8, events: &[Event], widest: usize) -> Ve
         if fed.frame_length > 0 {
             items.push(Item::Frame(frame[..fed.frame_length].to_vec()));
         } else if fed.refusal > 0 {
-            items.push(Item::Refused(fed.refusal));
+            items.push(Item::Refused(fed.refusal, fed.place));
         }
         if fed.taken == 0 {
             // Nothing taken of a piece that is not empty: no receiver does that, and this loop must end.
@@ -437,20 +439,33 @@ fn texts(section: &mut Section) {
 
 // ---- Streams
 
-/// Kind, events, items.
+/// Kind, events, items; the places were counted by hand.
 #[rustfmt::skip]
 const STREAMS: &[(u8, &str, &str)] = &[
-    (0, "7E 00 45 00 BA 7E 11 7E", "F 4"),
+    (0, "7E 00 45 00 BA 7E 11 7E", "F 4@0"),
     (0, "7E 02 43 04 64 A0 22 FC 94 7E", "F"),
     (1, "7E 02 43 04 64 A0 22 FC 94 7E", "7"),
     // A 7D does not swallow the 7E; the earliest of 3 and 4
-    (0, "7E 00 45 00 7D 7E 00 45 00 BA 7E", "3 F"),
-    (0, "7E 7D 11 7E", "3"),
-    (0, "7E 7D 5D 11 7E", "4"),
-    (0, "7E 7D 7D 5E 7E", "3"),
-    (0, "7E 7D 41 11 7E", "3"),
-    (0, "7E 11 7D 41 7E", "4"),
-    (0, "7E 7D 7E", "3"),
+    (0, "7E 00 45 00 7D 7E 00 45 00 BA 7E", "3@3 F"),
+    (0, "7E 7D 11 7E", "3@0"),
+    (0, "7E 7D 5D 11 7E", "4@2"),
+    (0, "7E 7D 7D 5E 7E", "3@0"),
+    (0, "7E 7D 41 11 7E", "3@0"),
+    (0, "7E 11 7D 41 7E", "4@0"),
+    (0, "7E 7D 7E", "3@0"),
+    (0, "7E 00 7D 00 00 11 7E", "3@1"),
+    (0, "7E 00 13 7D 00 7E", "4@1"),
+    (1, "7E 00 45 00 11 13 7D 7E", "4@3"),
+    // A place is counted from the stretch's own 7E; noise, marks and other stretches are not in it
+    (0, "7E 00 11 7E 00 00 11 7E", "4@1 4@2"),
+    (0, "11 7D 00 7E 00 11 7E", "4@1"),
+    (0, "7E 7E 7E 13 7E 7E", "4@0"),
+    (0, "7E 00 00 M 00 00 00 7E 11 7E", "9 4@0"),
+    (1, "7E 00 45 00 7D 5E 7D 7E 00 BA 11 7E", "3@5 4@2"),
+    // Of an escape before it both bytes count
+    (0, "7E 7D 5E 7D 5D 7D 31 7D 33 13 7E", "4@8"),
+    (0, "7E 00 7D 31 00 7D 33 00 7D 00 7E", "3@7"),
+    (1, "7E 5E 5D 31 33 7D 33 11 7E", "4@6"),
     // Too short, L before the checksum, and the kind's own sizes
     (0, "7E 00 7E", "6"),
     (0, "7E 00 45 00 7E", "6"),
@@ -469,14 +484,53 @@ const STREAMS: &[(u8, &str, &str)] = &[
     (0, "7E 11 M", "9"),
     (0, "7E 00 45 00 BA 7E M 00 45 00 BA 7E", "F"),
     (0, "M M 7E M M", ""),
-    // The largest sizes; a fault past them still comes first
+    // The largest sizes; a fault past them still comes first, at its place
     (0, "7E 00*260 7E", "5"),
     (1, "7E 00*260 7E", "7"),
     (1, "7E 00*261 7E", "5"),
     (0, "7E 00*259 7E", "7"),
-    (0, "7E 00*300 11 7E", "4"),
-    (0, "7E 00*70000 11 7E", "4"),
-    (0, "7E 00*300 7D 7E", "3"),
+    (0, "7E 00*300 11 7E", "4@300"),
+    (0, "7E 00*70000 11 7E", "4@65535"),
+    (0, "7E 00*300 7D 7E", "3@300"),
+    (0, "7E 00*258 11 7E", "4@258"),
+    (0, "7E 00*259 11 7E", "4@259"),
+    (1, "7E 00*260 11 7E", "4@260"),
+    (0, "7E 00*261 11 7E", "4@261"),
+    (1, "7E 00*262 7D 41 7E", "3@262"),
+    (0, "7E 00*260 7D 5D 11 7E", "4@262"),
+    (0, "7E 00*261 7D 5D 7D 7E", "3@263"),
+    (0, "7E 7D5E*259 11 7E", "4@518"),
+    (1, "7E 7D5E*260 11 7E", "4@520"),
+    (0, "7E 7D31*260 00 7D 7E", "3@521"),
+    (0, "7E 7D33*261 13 7E", "4@522"),
+    (0, "7E 7D5D*130 00*130 7D 11 7E", "3@390"),
+    (0, "7E 7D5D*130 00*131 7D5D 11 7E", "4@393"),
+    (0, "7E 00*300 11 00*100 7D 7E", "4@300"),
+    (0, "7E 00*300 7D 00*100 11 7E", "3@300"),
+    // The last place that is told; what is past it is told as that
+    (0, "7E 00*65533 11 7E", "4@65533"),
+    (0, "7E 00*65534 11 7E", "4@65534"),
+    (0, "7E 00*65535 11 7E", "4@65535"),
+    (0, "7E 00*65536 11 7E", "4@65535"),
+    (1, "7E 00*65537 13 7E", "4@65535"),
+    (1, "7E 00*65534 7D 7E", "3@65534"),
+    (0, "7E 00*65534 7D 11 7E", "3@65534"),
+    (0, "7E 00*65535 7D 41 7E", "3@65535"),
+    (0, "7E 00*65536 7D 41 7E", "3@65535"),
+    (0, "7E 7D5D 00*65532 11 7E", "4@65534"),
+    (0, "7E 7D5D 00*65533 11 7E", "4@65535"),
+    (0, "7E 7D5D 00*65534 11 7E", "4@65535"),
+    (0, "7E 00*65532 7D5D 11 7E", "4@65534"),
+    (0, "7E 00*65533 7D5D 11 7E", "4@65535"),
+    (0, "7E 00*65534 7D5D 11 7E", "4@65535"),
+    (0, "7E 7D5E*32766 7D 7E", "3@65532"),
+    (0, "7E 7D5E*32767 13 7E", "4@65534"),
+    (0, "7E 7D5E*32767 00 13 7E", "4@65535"),
+    (0, "7E 7D5E*32768 13 7E", "4@65535"),
+    (0, "7E 7D5E*33000 7D 5F 7E", "3@65535"),
+    (0, "7E 11 00*70000 7D 7E", "4@0"),
+    (0, "7E 00*65300 7D 00*300 11 7E 00 11 7E", "3@65300 4@1"),
+    (0, "7E 00*65536 7E", "5"),
     (0, "7E 00 00 FF 00*255 00 7E", "F"),
     (0, "7E 00 00 FF 00*255 01 7E", "8"),
     (1, "7E 00 00 00 FF 00*255 00 7E", "F"),
@@ -512,13 +566,90 @@ fn streams(section: &mut Section) {
         let stream = events(text);
         let defined = items(crate::cases::kind_of(*kind), &stream);
         section.expect(&format!("the items of kind {kind} in {text}"), expected.to_string(), told(&defined));
-        // The reference rebuilds a long stretch at each call, so the longest stream is cut into large pieces only.
-        let widths: &[usize] = if stream.len() > 1000 { &[100_000, 4096] } else { &[100_000, 7, 1] };
         for (name, on) in both() {
+            // The reference rebuilds a long stretch at each call, so there the longest streams go in large pieces only.
+            let long = stream.len() > 1000 && name == "reference";
+            let widths: &[usize] = if long { &[100_000, 4096] } else { &[100_000, 4096, 16, 7, 1] };
             for widest in widths {
                 let found = received(on, *kind, &stream, *widest);
                 section.expect(&format!("{name}, kind {kind}, pieces of {widest}: {text}"), &defined, &found);
             }
+        }
+    }
+}
+
+/// By docs/RECORD.md and 02 (vii), counted by hand: a record's first four bytes, the byte that its store is full of, a
+/// piece; the refusal, its place, and the four bytes after the call.
+#[rustfmt::skip]
+const RECORDS: &[(&str, u8, &str, u8, u16, &str)] = &[
+    // Nothing stored, one byte, and one that was received as two
+    ("00 01 00 00", 0x7D, "11 7E", 4, 0, "00 01 00 00"),
+    ("00 01 00 01", 0x00, "11 7E", 4, 1, "00 01 00 00"),
+    ("00 01 00 01", 0x7D, "11 7E", 4, 2, "00 01 00 00"),
+    ("01 02 00 01", 0x7E, "7E", 3, 2, "01 01 00 00"),
+    ("00 02 00 02", 0x00, "5D 7D 7E", 3, 4, "00 01 00 00"),
+    // A fault that is found stays, and so does the length
+    ("00 03 00 02", 0x11, "7E", 3, 4, "00 01 00 00"),
+    ("00 03 00 02", 0x11, "00 11", 0, 0, "00 03 00 02"),
+    ("01 04 00 03", 0x13, "7D 00 7E", 4, 6, "01 01 00 00"),
+    ("01 04 01 2C", 0x00, "00 7D 00 7E", 4, 300, "01 01 00 00"),
+    ("01 04 01 2C", 0x00, "00 7D 00", 0, 0, "01 04 01 2C"),
+    // 259 to 262: past the store each received byte counts, two for an escape, and a 7D only with what follows it
+    ("00 01 01 03", 0x00, "00", 0, 0, "00 01 01 04"),
+    ("00 01 01 03", 0x00, "7D 5D", 0, 0, "00 01 01 04"),
+    ("00 01 01 04", 0x00, "00", 0, 0, "00 01 01 05"),
+    ("00 01 01 04", 0x00, "7D", 0, 0, "00 02 01 04"),
+    ("00 01 01 04", 0x00, "7D 5D", 0, 0, "00 01 01 06"),
+    ("00 02 01 05", 0x00, "33", 0, 0, "00 01 01 07"),
+    ("00 02 01 05", 0x00, "41", 0, 0, "00 03 01 05"),
+    ("00 01 01 03", 0x00, "11 7E", 4, 259, "00 01 00 00"),
+    ("00 01 01 04", 0x00, "11 7E", 4, 260, "00 01 00 00"),
+    ("00 01 01 04", 0x7E, "11 7E", 4, 520, "00 01 00 00"),
+    ("00 01 01 05", 0x00, "13 7E", 4, 261, "00 01 00 00"),
+    ("00 01 01 06", 0x00, "13 7E", 4, 262, "00 01 00 00"),
+    ("00 01 01 06", 0x13, "00 7D 7E", 3, 523, "00 01 00 00"),
+    ("00 01 01 06", 0x00, "7E", 5, 0, "00 01 00 00"),
+    ("01 01 01 05", 0x00, "7E", 5, 0, "01 01 00 00"),
+    ("01 01 01 04", 0x00, "7E", 7, 0, "01 01 00 00"),
+    // 65,533 to 65,535, where it stops
+    ("00 01 FF FD", 0x00, "00", 0, 0, "00 01 FF FE"),
+    ("00 01 FF FD", 0x00, "7D 5D", 0, 0, "00 01 FF FF"),
+    ("00 01 FF FE", 0x00, "7D 5D", 0, 0, "00 01 FF FF"),
+    ("00 01 FF FF", 0x00, "00 00 7D 5D 7D", 0, 0, "00 02 FF FF"),
+    ("00 01 FF FE", 0x00, "00 13", 0, 0, "00 04 FF FF"),
+    ("00 01 FF FD", 0x00, "11 7E", 4, 65_533, "00 01 00 00"),
+    ("00 01 FF FD", 0x00, "00 11 7E", 4, 65_534, "00 01 00 00"),
+    ("00 01 FF FD", 0x00, "7D 5D 11 7E", 4, 65_535, "00 01 00 00"),
+    ("00 01 FF FD", 0x00, "7D 5D 00 11 7E", 4, 65_535, "00 01 00 00"),
+    ("00 02 FF FE", 0x00, "7E", 3, 65_534, "00 01 00 00"),
+    ("00 02 FF FF", 0x00, "7E", 3, 65_535, "00 01 00 00"),
+    ("01 01 FF FF", 0x00, "11 7E", 4, 65_535, "01 01 00 00"),
+    ("01 01 FF FF", 0x00, "7E", 5, 0, "01 01 00 00"),
+    // 65,274 with 260 stored bytes that were received as 520: 520 + 65,014
+    ("00 01 FE FA", 0x11, "11 7E", 4, 65_534, "00 01 00 00"),
+    ("00 01 FE FB", 0x11, "11 7E", 4, 65_535, "00 01 00 00"),
+    ("00 04 FE FC", 0x11, "11 7E", 4, 65_535, "00 01 00 00"),
+    ("00 03 FF FF", 0x11, "7E", 3, 65_535, "00 01 00 00"),
+    // Out of their ranges: a length in noise, a kind and a mode that are none
+    ("00 00 00 01", 0x00, "11 7E", 2, 0, "00 00 00 01"),
+    ("00 00 01 04", 0x00, "11 7E", 2, 0, "00 00 01 04"),
+    ("01 00 FF FF", 0x00, "7E", 2, 0, "01 00 FF FF"),
+    ("02 01 00 01", 0x00, "11 7E", 2, 0, "02 01 00 01"),
+    ("00 05 00 01", 0x00, "11 7E", 2, 0, "00 05 00 01"),
+    ("00 00 00 00", 0x00, "11 7D 7E", 0, 0, "00 01 00 00"),
+];
+
+fn records(section: &mut Section) {
+    for (before, stored, piece, refusal, place, after) in RECORDS {
+        for (name, on) in both() {
+            let (mut record, piece_bytes, mut frame) = ([*stored; RECORD], hex(piece), [0; STORE]);
+            record[..4].copy_from_slice(&hex(before));
+            let fed = on.feed(&mut record, &piece_bytes, &mut frame);
+            let taken = if *refusal == 2 { 0 } else { piece_bytes.len() };
+            let expected = Fed { refusal: *refusal, place: *place, frame_length: 0, taken };
+            let what = format!("{name}, a record {before} with {stored:02X} stored, fed {piece}");
+            section.expect(&what, expected, fed);
+            section.expect(&format!("{what}, after it"), hex(after), record[..4].to_vec());
         }
     }
 }
@@ -751,6 +882,7 @@ pub fn run(report: &mut Report) {
     report.section("vectors: validities", validities);
     report.section("vectors: texts and orders", texts);
     report.section("vectors: streams", streams);
+    report.section("vectors: records", records);
     report.section("vectors: checksum and CRC", sums);
     report.section("vectors: words", words);
     report.section("vectors: I2C commands", commands);
