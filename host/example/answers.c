@@ -11,6 +11,13 @@ static int is_silent(struct answer answer)
     return answer.ending == SILENT || answer.ending == NOISE;
 }
 
+/* Of a broken escape and of a bare control byte the library says where in the frame, up to 65,535. */
+static void print_place(struct answer answer)
+{
+    if (answer.reply.refusal == MFC_REFUSAL_BAD_ESCAPE || answer.reply.refusal == MFC_REFUSAL_BARE_CONTROL)
+        (void)printf(" at byte %u%s of the frame", answer.place, answer.place == 65535 ? " or later" : "");
+}
+
 void print_failure(struct answer answer)
 {
     mfc_reply reply = answer.reply;
@@ -24,8 +31,11 @@ void print_failure(struct answer answer)
     else if (reply.refusal == MFC_REFUSAL_DEVICE_ERROR)
         (void)printf("refused %u (controller reports error %u, %s: %s)", reply.refusal, reply.code, code_words(reply.code),
                      code_advice(reply.code));
-    else
-        (void)printf("refused %u (%s: %s)", reply.refusal, refusal_words(reply.refusal), refusal_advice(reply.refusal));
+    else {
+        (void)printf("refused %u", reply.refusal);
+        print_place(answer);
+        (void)printf(" (%s: %s)", refusal_words(reply.refusal), refusal_advice(reply.refusal));
+    }
 }
 
 void print_answer(struct answer answer, struct counts *counts)

@@ -1,5 +1,6 @@
 #include "damage.h"
 
+#include <ctype.h>
 #include <errno.h>
 #include <stdlib.h>
 #include <string.h>
@@ -20,6 +21,23 @@ int read_rate(const char *text, struct rate *rate)
     }
     rate->chance = strtod(text, &end);
     return errno == 0 && *end == '\0' && rate->chance >= 0 && rate->chance <= 1;
+}
+
+int read_put(const char *text, struct damage *damage)
+{
+    unsigned long place, byte;
+    char *end;
+
+    if (text == NULL || !isdigit((unsigned char)text[0]))
+        return 0;
+    errno = 0;
+    place = strtoul(text, &end, 10);
+    if (errno != 0 || place > 1000 || *end != '=' || !isxdigit((unsigned char)end[1]))
+        return 0;
+    byte = strtoul(end + 1, &end, 16);
+    damage->put_at = place + 1;
+    damage->put_byte = (uint8_t)byte;
+    return errno == 0 && *end == '\0' && byte <= 0xFF;
 }
 
 /* Splitmix64: one seed gives one run. */
@@ -62,6 +80,16 @@ size_t pass_over(struct damage *damage, const uint8_t *bytes, size_t n, uint8_t 
         out[end++] = byte;
     }
     return end;
+}
+
+void put_over(const struct damage *damage, uint8_t *bytes, size_t n, unsigned *struck)
+{
+    size_t at = damage->put_at;
+
+    if (at == 0 || at >= n || bytes[at] == damage->put_byte)
+        return;
+    bytes[at] = damage->put_byte;
+    ++*struck;
 }
 
 size_t add_noise(struct damage *damage, uint8_t *bytes, size_t n)

@@ -16,11 +16,17 @@ struct rate {
 struct damage {
     struct rate drop, flip;                          /* for each byte */
     struct rate noise, cut, pause, late, held, wrong; /* for each answer */
+    size_t put_at;                                   /* the byte of every answer that becomes another; 0, the opening 7E, for none */
+    uint8_t put_byte;                                /* that other */
     uint64_t state;                                  /* of the random numbers */
 };
 
 /* Reads "0.01" (a chance) or "1/100" (exactly every 100th). Returns 0 if `text` is neither. */
 int read_rate(const char *text, struct rate *rate);
+
+/* Reads "8=11": the place of a byte in an answer, counted from 0 behind the opening 7E, and in hexadecimal what it becomes. Returns 0 if
+   `text` is no such thing. */
+int read_put(const char *text, struct damage *damage);
 
 /* Whether this place is struck. */
 int strikes(struct damage *damage, struct rate *rate);
@@ -31,6 +37,9 @@ uint32_t random_under(struct damage *damage, uint32_t limit);
 /* Passes n bytes over the line: some are dropped, some get a bit flipped. `out` has n bytes of room. Returns how many come out,
    and raises `*struck` for each that was touched. */
 size_t pass_over(struct damage *damage, const uint8_t *bytes, size_t n, uint8_t *out, unsigned *struck);
+
+/* Puts the one byte into an answer of n bytes, if it is so long, and raises `*struck` where that changes it. */
+void put_over(const struct damage *damage, uint8_t *bytes, size_t n, unsigned *struck);
 
 /* Puts 1 to 8 random bytes before, inside or behind n bytes in a buffer with 8 more of room. Returns the new length. */
 size_t add_noise(struct damage *damage, uint8_t *bytes, size_t n);

@@ -241,7 +241,7 @@ int line_send(struct line *line, const uint8_t *bytes, size_t n)
    for the next call. */
 static mfc_fed feed(struct line *line)
 {
-    mfc_fed fed = { 0, 0, 0 };
+    mfc_fed fed = { 0, 0, 0, 0 };
 
     if (line->start < line->end)
         fed = mfc_feed(line->record, sizeof line->record, line->bytes + line->start, line->end - line->start,
@@ -283,7 +283,7 @@ size_t line_next(struct line *line, uint8_t *refusal)
 
 static struct answer ended(enum ending ending, uint8_t refusal)
 {
-    struct answer answer = { SILENT, { 0, 0, 0, 0, 0, 0, 0 }, 0 };
+    struct answer answer = { SILENT, { 0, 0, 0, 0, 0, 0, 0 }, 0, 0 };
 
     answer.ending = ending;
     answer.reply.refusal = refusal;
@@ -328,8 +328,10 @@ static struct answer listen_for(struct line *line, uint8_t address, uint8_t requ
             }
             refusal = reply.refusal;
         }
-        if (refusal != 0 && answer.ending == SILENT)
+        if (refusal != 0 && answer.ending == SILENT) {
             answer = ended(REFUSED, refusal);
+            answer.place = fed.place;
+        }
         if (heard == QUIET)
             return answer.ending == SILENT && line->heard != heard_before ? ended(NOISE, 0) : answer;
     }

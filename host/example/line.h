@@ -24,7 +24,7 @@ struct line {
 /* How one question ended. */
 enum ending {
     ANSWERED,                    /* `reply` is the answer */
-    REFUSED,                     /* `reply.refusal` says why, with a device error `reply.code` */
+    REFUSED,                     /* `reply.refusal` says why, with a device error `reply.code`, with 3 and 4 `place` where */
     SILENT,                      /* nothing arrived */
     NOISE,                       /* bytes arrived, but no start of a frame among them */
     LINE_GONE                    /* hang-up, unplugged, or an error in errno */
@@ -33,6 +33,7 @@ enum ending {
 struct answer {
     enum ending ending;
     mfc_reply reply;
+    uint16_t place;              /* with refusals 3 and 4 where in the frame, as the library's mfc_fed has it */
     size_t length;               /* of the frame's body that was read, which stands in `frame` of the line; 0 without one */
 };
 

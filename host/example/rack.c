@@ -41,6 +41,8 @@ static const char help[] =
     "  --late RATE     send an answer late\n"
     "  --held RATE     send an answer only before the next one, in one piece with it\n"
     "  --wrong RATE    answer from the next controller's address\n"
+    "  --put AT=BYTE   make byte AT of every answer, counted from 0 behind its opening 7E, BYTE in hexadecimal: 8=11\n"
+    "  --fill N        put N bytes 00 behind the opening 7E of every answer, before what --put changed (1 to 100000)\n"
     "  --requests      let --drop and --flip strike the requests too\n"
     "  --echo          send the master its own request back, in one piece with the answer, as a two-wire line may\n"
     "  --delay MS      what late means (1 to 10000, default 300)\n"
@@ -77,6 +79,7 @@ struct rack {
     struct damage damage;
     int damage_requests, echo;
     long delay_ms, seconds;
+    long fill;                   /* bytes 00 put into each answer */
     const char *wire_name;       /* of the file that tells what crosses the line, or NULL */
     FILE *wire;
     int master, slave;           /* the slave is held open, so that the line lives on between two masters */
@@ -204,6 +207,41 @@ static void put_now(struct rack *rack, const uint8_t *bytes, size_t n)
     rack->ahead_n = 0;
 }
 
+/* Sends bytes to a master that listens: where the terminal cannot hold more, this waits until some were taken. */
+static void put_waiting(struct rack *rack, const uint8_t *bytes, size_t n)
+{
+    while (n > 0) {
+        struct pollfd one = { 0, POLLOUT, 0 };
+        ssize_t sent;
+
+        one.fd = rack->master;
+        if (poll(&one, 1, SILENCE_MS) <= 0)
+            return;
+        sent = write(rack->master, bytes, n);
+        if (sent <= 0)
+            return;
+        note(rack, '2', bytes, (size_t)sent);
+        bytes += sent;
+        n -= (size_t)sent;
+    }
+}
+
+/* Sends an answer with the bytes of --fill in it, which are more than the terminal holds. */
+static void put_filled(struct rack *rack, const uint8_t *bytes, size_t n)
+{
+    static const uint8_t zeros[1000] = { 0 };
+    size_t left = (size_t)rack->fill;
+
+    put_now(rack, bytes, 1);
+    while (left > 0) {
+        size_t some = left < sizeof zeros ? left : sizeof zeros;
+
+        put_waiting(rack, zeros, some);
+        left -= some;
+    }
+    put_waiting(rack, bytes + 1, n - 1);
+}
+
 static void put_later(struct rack *rack, const uint8_t *bytes, size_t n)
 {
     for (size_t i = 0; i < WAITING; i++)
@@ -244,6 +282,7 @@ static void put_answer(struct rack *rack, const uint8_t *frame, size_t length)
     int late = strikes(damage, &damage->late), pause = strikes(damage, &damage->pause);
     int cut = strikes(damage, &damage->cut), held = strikes(damage, &damage->held);
 
+    put_over(damage, bytes, n, &struck);
     if (strikes(damage, &damage->noise)) {
         n = first = add_noise(damage, bytes, n);
         struck++;
@@ -251,7 +290,7 @@ static void put_answer(struct rack *rack, const uint8_t *frame, size_t length)
     if ((cut || pause) && n > 1)
         first = 1 + random_under(damage, (uint32_t)n - 1);
     rack->answers++;
-    rack->damaged += struck > 0 || late || pause || cut || held;
+    rack->damaged += struck > 0 || rack->fill > 0 || late || pause || cut || held;
     if (late) {
         put_later(rack, bytes, n);
         return;
@@ -260,7 +299,10 @@ static void put_answer(struct rack *rack, const uint8_t *frame, size_t length)
         put_ahead(rack, bytes, n);
         return;
     }
-    put_now(rack, bytes, first);
+    if (rack->fill > 0 && first > 1)
+        put_filled(rack, bytes, first);
+    else
+        put_now(rack, bytes, first);
     if (pause && !cut)
         put_later(rack, bytes + first, n - first);
 }
@@ -541,6 +583,10 @@ static int read_options(struct rack *rack, int argc, char **argv)
             good = rack->damage_requests = 1;
         } else if (strcmp(option, "--echo") == 0) {
             good = rack->echo = 1;
+        } else if (strcmp(option, "--put") == 0) {
+            good = read_put(argv[++i], &rack->damage);
+        } else if (strcmp(option, "--fill") == 0) {
+            good = read_number(argv[++i], 1, 100000, &rack->fill);
         } else if (strcmp(option, "--controllers") == 0) {
             good = read_number(argv[++i], 1, MOST_CONTROLLERS, &rack->count);
         } else if (strcmp(option, "--delay") == 0) {

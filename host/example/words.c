@@ -19,8 +19,8 @@ struct word {
 static const struct word refusals[] = {
     { MFC_REFUSAL_NO_ROOM, "lent room too small, or a table not of 32 places", PROGRAM },
     { MFC_REFUSAL_BAD_RECORD, "receiver record or board's table damaged", PROGRAM },
-    { MFC_REFUSAL_BAD_ESCAPE, "escape byte broken", CABLE },
-    { MFC_REFUSAL_BARE_CONTROL, "bare XON or XOFF byte", "switch off software flow control in the adapter, then poll again" },
+    { MFC_REFUSAL_BAD_ESCAPE, "escape byte with no right byte behind it", CABLE },
+    { MFC_REFUSAL_BARE_CONTROL, "bare XON or XOFF byte", "switch off software flow control in the adapter, " CABLE },
     { MFC_REFUSAL_BODY_TOO_LONG, "answer too long", CABLE },
     { MFC_REFUSAL_BODY_TOO_SHORT, "answer too short", CABLE },
     { MFC_REFUSAL_WRONG_LENGTH, "length byte wrong", CABLE },
