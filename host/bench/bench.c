@@ -24,9 +24,10 @@
 #define SLICES 201
 #define SLICE_NS 200000.0
 #define LONGEST 600              /* room for any frame */
+#define MOST_PLACE 200000        /* of a fault */
 
-static uint8_t polling[TRAFFIC], escapes[TRAFFIC], damaged[TRAFFIC], any_bytes[TRAFFIC];
-static size_t polling_n, escapes_n, damaged_n;
+static uint8_t polling[TRAFFIC], escapes[TRAFFIC], damaged[TRAFFIC], broken[TRAFFIC], any_bytes[TRAFFIC];
+static size_t polling_n, escapes_n, damaged_n, broken_n;
 static struct poll polls[POLLS];
 static uint8_t letters[255], specials[254];   /* 255 letters are one too many */
 static uint8_t sfc6_words[9], liquid_words[9];
@@ -48,7 +49,7 @@ static struct plain_fed feed_library_once(const uint8_t *piece, size_t n)
 {
     mfc_fed fed = mfc_feed(record, sizeof record, piece, n, frame, sizeof frame);
 
-    return (struct plain_fed){ fed.refusal, fed.frame_length, fed.taken };
+    return (struct plain_fed){ fed.refusal, fed.place, fed.frame_length, fed.taken };
 }
 
 static struct plain_fed feed_plain_once(const uint8_t *piece, size_t n)
@@ -218,25 +219,69 @@ void compare(int same, const char *what)
         (void)printf("different answers: %s\n", what);
 }
 
-static void compare_feeds(uint8_t kind, const uint8_t *bytes, size_t n, size_t piece)
+static void compare_fresh(uint8_t kind)
 {
     compare(mfc_receiver_fresh(kind, record, sizeof record) == 0, "fresh");
     plain_fresh(&receiver, kind);
-    for (size_t at = 0; at < n;) {
-        size_t length = smaller(piece, n - at);
-        mfc_fed fed = mfc_feed(record, sizeof record, bytes + at, length, frame, sizeof frame);
-        struct plain_fed plain = plain_feed(&receiver, bytes + at, length, plain_frame, sizeof plain_frame);
-        size_t taken = plain.taken;
+}
 
-        compare(fed.taken == taken && fed.refusal == plain.refusal && fed.frame_length == plain.frame_length
-                && memcmp(frame, plain_frame, fed.frame_length) == 0, "feed");
-        if (taken == 0 || fed.taken != taken)
+/* One call of each. Where they take different numbers of bytes, 0 is answered as taken. */
+static struct plain_fed compare_feed(const uint8_t *piece, size_t n)
+{
+    struct plain_fed fed = feed_library_once(piece, n), plain = feed_plain_once(piece, n);
+
+    compare(fed.taken == plain.taken && fed.refusal == plain.refusal && fed.place == plain.place
+            && fed.frame_length == plain.frame_length && memcmp(frame, plain_frame, fed.frame_length) == 0, "feed");
+    if (fed.taken != plain.taken)
+        plain.taken = 0;
+    return plain;
+}
+
+static void compare_feeds(uint8_t kind, const uint8_t *bytes, size_t n, size_t piece)
+{
+    compare_fresh(kind);
+    for (size_t at = 0; at < n;) {
+        size_t taken = compare_feed(bytes + at, smaller(piece, n - at)).taken;
+
+        if (taken == 0)
             return;
         at += taken;
         /* A silence now and then, at another place each time. */
         if (at % 997 < piece && at % 5 == 0)
             compare(mfc_silence(record, sizeof record) == plain_silence(&receiver), "silence");
     }
+}
+
+/* One stretch with one fault, without a silence in it: its place is known. */
+static void compare_place(size_t place, size_t every, unsigned fault, size_t piece)
+{
+    static uint8_t bytes[MOST_PLACE + 4];
+    size_t n = broken_stretch(bytes, place, every, fault), found = 0;
+    uint8_t refusal = fault < BARE_FAULTS ? 4 : 3;
+
+    compare_fresh(1);
+    for (size_t at = 0; at < n;) {
+        struct plain_fed fed = compare_feed(bytes + at, smaller(piece, n - at));
+
+        if (fed.taken == 0)
+            return;
+        at += fed.taken;
+        found += fed.refusal == refusal && fed.place == smaller(place, 65535);
+    }
+    compare(found == 1, "place");
+}
+
+/* At the start, where the store is full, where the places end, and where the plain receiver's counts have stopped or begun again. */
+static void compare_places(size_t piece)
+{
+    static const size_t places[] = {
+        0, 1, 2, 3, 258, 259, 260, 261, 262, 263, 518, 519, 520, 521, 522, 523, 65533, 65534, 65535, 65536, 65537, 70000, MOST_PLACE
+    };
+
+    for (size_t i = 0; i < sizeof places / sizeof places[0]; i++)
+        for (size_t every = 0; every <= 3; every++)
+            for (unsigned fault = 0; fault < FAULTS; fault++)
+                compare_place(places[i], every, fault, piece);
 }
 
 static const uint32_t values[] = {
@@ -377,8 +422,11 @@ static void compare_all(void)
             compare_feeds(kind, polling, polling_n, pieces[p]);
             compare_feeds(kind, escapes, escapes_n, pieces[p]);
             compare_feeds(kind, damaged, damaged_n, pieces[p]);
+            compare_feeds(kind, broken, broken_n, pieces[p]);
             compare_feeds(kind, any_bytes, sizeof any_bytes, pieces[p]);
         }
+    for (size_t p = 0; p < sizeof pieces / sizeof pieces[0]; p++)
+        compare_places(pieces[p]);
     for (size_t a = 0; a < sizeof addresses; a++)
         for (uint8_t request = 0; request <= 21; request++)
             for (size_t v = 0; v < VALUES; v++)
@@ -669,6 +717,7 @@ int main(int argc, char **argv)
     good_words(0xFF, row_of_words, 3 * ROW);
     lay_boards();
     lay_logs();
+    broken_n = broken_traffic(broken, sizeof broken);
     for (size_t i = 0; i < sizeof letters; i++)
         letters[i] = (uint8_t)('A' + i % 26);
     for (size_t i = 0; i < sizeof specials; i++)

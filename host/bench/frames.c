@@ -64,7 +64,9 @@ static int list(void)
         for (size_t at = 0; at < n;) {
             struct plain_fed fed = plain_feed(&receiver, piece + at, n - at, frame, sizeof frame);
 
-            if (fed.refusal != 0)
+            if (fed.refusal == 3 || fed.refusal == 4)
+                put_line(fed.refusal == 3 ? "refused 3 at" : "refused 4 at", (unsigned long[]){ fed.place }, 1);
+            else if (fed.refusal != 0)
                 put_line("refused", (unsigned long[]){ fed.refusal }, 1);
             else if (fed.frame_length > 0)
                 put_line("frame", (unsigned long[]){ frame[0], frame[1], frame[2] }, 3);

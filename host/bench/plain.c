@@ -5,6 +5,7 @@
 #define DELIMITER 0x7E
 #define ESCAPE 0x7D
 #define STORE 260
+#define FARTHEST 65535           /* the last place of a fault that is told */
 
 static inline int special(uint8_t byte)
 {
@@ -22,13 +23,11 @@ void plain_fresh(struct plain_receiver *receiver, uint8_t kind)
     receiver->kind = kind;
 }
 
-/* What a closed stretch is: 0 for a frame, else its refusal. */
-static uint8_t judge(const struct plain_receiver *receiver, unsigned mode, unsigned length, uint8_t sum)
+/* What is wrong with a body: 0 for nothing, else its refusal. */
+static uint8_t judge(const struct plain_receiver *receiver, unsigned length, uint8_t sum)
 {
     unsigned head = receiver->kind == 0 ? 3 : 4;
 
-    if (mode != PLAIN)
-        return mode == BARE ? 4 : 3;
     if (length > head + 256)
         return 5;
     if (length < head + 1)
@@ -39,9 +38,35 @@ static uint8_t judge(const struct plain_receiver *receiver, unsigned mode, unsig
     return sum == 0xFF ? 0 : 8;
 }
 
+/* Where the fault of a stretch is. Neither count goes on behind a fault, so the bytes before it are those of the body and, for each
+   escape among them, one more. */
+static uint16_t place_in(const struct plain_receiver *receiver, unsigned length)
+{
+    unsigned place = length + receiver->escapes;
+
+    return (uint16_t)(place < FARTHEST ? place : FARTHEST);
+}
+
+struct item { uint8_t refusal; uint16_t place; };
+
+/* What a closed stretch is: without a refusal a frame. The next stretch has no escapes yet. */
+static struct item close_stretch(struct plain_receiver *receiver, unsigned mode, unsigned length, uint8_t sum)
+{
+    struct item item = { 0, 0 };
+
+    if (mode == PLAIN) {
+        item.refusal = judge(receiver, length, sum);
+    } else {
+        item.refusal = mode == BARE ? 4 : 3;
+        item.place = place_in(receiver, length);
+    }
+    receiver->escapes = 0;
+    return item;
+}
+
 static inline struct plain_fed feed(struct plain_receiver *receiver, const uint8_t *piece, size_t n)
 {
-    struct plain_fed fed = { 0, 0, 0 };
+    struct plain_fed fed = { 0, 0, 0, 0 };
     unsigned mode = receiver->mode;
     unsigned length = receiver->length;
     uint8_t sum = receiver->sum;
@@ -55,8 +80,11 @@ static inline struct plain_fed feed(struct plain_receiver *receiver, const uint8
 
             mode = PLAIN;
             if (closed > PLAIN || (closed == PLAIN && length > 0)) {
-                fed.refusal = judge(receiver, closed, length, sum);
-                fed.frame_length = fed.refusal == 0 ? length : 0;
+                struct item item = close_stretch(receiver, closed, length, sum);
+
+                fed.refusal = item.refusal;
+                fed.place = item.place;
+                fed.frame_length = item.refusal == 0 ? length : 0;
                 length = 0;
                 sum = 0;
                 break;
@@ -79,12 +107,14 @@ static inline struct plain_fed feed(struct plain_receiver *receiver, const uint8
             }
             byte ^= 0x20;
             mode = PLAIN;
+            receiver->escapes++;
         } else {
             continue;
         }
         if (length < STORE)
-            receiver->store[length] = byte;
-        length += length <= STORE;
+            receiver->store[length++] = byte;
+        else
+            length += length < FARTHEST;
         sum = (uint8_t)(sum + byte);
     }
     receiver->mode = (uint8_t)mode;
@@ -96,9 +126,9 @@ static inline struct plain_fed feed(struct plain_receiver *receiver, const uint8
 
 struct plain_fed plain_feed(struct plain_receiver *receiver, const uint8_t *piece, size_t n, uint8_t *frame, size_t room)
 {
-    struct plain_fed fed = { 0, 0, 0 };
+    struct plain_fed fed = { 0, 0, 0, 0 };
 
-    if (receiver->kind > 1 || receiver->mode > BARE || receiver->length > (receiver->mode == OUTSIDE ? 0 : STORE + 1)) {
+    if (receiver->kind > 1 || receiver->mode > BARE || (receiver->mode == OUTSIDE && receiver->length > 0)) {
         fed.refusal = 2;
         return fed;
     }
@@ -123,6 +153,7 @@ uint8_t plain_silence(struct plain_receiver *receiver)
 
     receiver->mode = OUTSIDE;
     receiver->length = 0;
+    receiver->escapes = 0;
     receiver->sum = 0;
     return cut ? 9 : 0;
 }

@@ -10,11 +10,12 @@ struct plain_receiver {
     uint8_t kind;                /* 0 requests, 1 replies */
     uint8_t mode;
     uint8_t sum;                 /* of the body so far */
-    uint16_t length;             /* of the body so far, stopping at 261 */
+    uint16_t length;             /* of the body so far, stopping at 65,535 */
+    uint16_t escapes;            /* among these bytes; any number where the length has stopped */
     uint8_t store[260];
 };
 
-struct plain_fed { uint8_t refusal; size_t frame_length, taken; };
+struct plain_fed { uint8_t refusal; uint16_t place; size_t frame_length, taken; };
 
 struct plain_written { uint8_t refusal; size_t length; };
 struct plain_words { uint8_t refusal; size_t count; };

@@ -111,6 +111,43 @@ size_t damaged_traffic(uint8_t *out, size_t room)
     return n;
 }
 
+/* A second fault behind the first, or the stretch's end, changes nothing. */
+size_t broken_stretch(uint8_t *out, size_t place, size_t every, unsigned fault)
+{
+    static const uint8_t faults[FAULTS][2] = {
+        { 0x11, 0x55 }, { 0x13, 0x11 }, { 0x11, 0x7D }, { 0x7D, 0x41 }, { 0x7D, 0x11 }, { 0x7D, 0x7E },
+    };
+    static const uint8_t seconds[4] = { 0x5E, 0x5D, 0x31, 0x33 };
+    size_t at = 0;
+
+    out[at++] = 0x7E;
+    for (size_t turn = 1; at <= place; turn++)
+        if (every > 0 && turn % every == 0 && at < place) {
+            out[at++] = 0x7D;
+            out[at++] = seconds[turn % 4];
+        } else {
+            out[at++] = (uint8_t)('A' + turn % 26);
+        }
+    memcpy(out + at, faults[fault], 2);
+    out[at + 2] = 0x7E;
+    return at + 3;
+}
+
+size_t broken_traffic(uint8_t *out, size_t room)
+{
+    size_t at = 0;
+
+    while (room - at > 1000) {
+        size_t place = next_random() % 900, every = next_random() % 4;
+        unsigned fault = next_random() % FAULTS;
+
+        if (next_random() % 8 != 0)
+            place %= 30;
+        at += broken_stretch(out + at, place, every, fault);
+    }
+    return at;
+}
+
 uint32_t any(uint32_t n)
 {
     static uint64_t any_state = 1;

@@ -31,6 +31,15 @@ size_t escape_traffic(uint8_t *out, size_t room);
 /* Polling traffic with a damaged byte every so often, so that every refusal of the receiver arises. */
 size_t damaged_traffic(uint8_t *out, size_t room);
 
+/* A stretch between two 7E with a fault at this place, of plain bytes and escapes before it: escapes at every `every`th turn, 0 for none.
+   The fault is one of FAULTS, those under BARE_FAULTS of refusal 4, the others of 3. Returns the bytes, place + 4. */
+#define FAULTS 6
+#define BARE_FAULTS 3
+size_t broken_stretch(uint8_t *out, size_t place, size_t every, unsigned fault);
+
+/* Such stretches one after the other, some of them over 260 and over 520 bytes long. */
+size_t broken_traffic(uint8_t *out, size_t room);
+
 /* A random number below n. Its low bits have no short period either: the processor would learn to predict the jumps that depend on
    them. */
 uint32_t any(uint32_t n);
