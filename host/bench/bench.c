@@ -264,7 +264,7 @@ static void compare_place(size_t place, size_t every, unsigned fault, size_t pie
         struct plain_fed fed = compare_feed(bytes + at, smaller(piece, n - at));
 
         if (fed.taken == 0)
-            return;
+            break;
         at += fed.taken;
         found += fed.refusal == refusal && fed.place == smaller(place, 65535);
     }

@@ -226,7 +226,7 @@ static void put_waiting(struct rack *rack, const uint8_t *bytes, size_t n)
     }
 }
 
-/* Sends an answer with the bytes of --fill in it, which are more than the terminal holds. */
+/* Sends an answer with the bytes of --fill in it, which may be more than the terminal holds. */
 static void put_filled(struct rack *rack, const uint8_t *bytes, size_t n)
 {
     static const uint8_t zeros[1000] = { 0 };

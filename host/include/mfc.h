@@ -80,7 +80,8 @@ enum {
     /* receiver record outside its ranges; a board's table with an entry out of range, or with a
      * node and kind twice. */
     MFC_REFUSAL_BAD_RECORD = 2,
-    /* 7D not followed by 5E, 5D, 31 or 33, or last in the stretch; the place of the 7D there. */
+    /* 7D not followed by 5E, 5D, 31 or 33, or last in the stretch; the place of the 7D there,
+     * as received. */
     MFC_REFUSAL_BAD_ESCAPE = 3,
     /* 11 or 13 not after a 7D; its place in the stretch, as received. */
     MFC_REFUSAL_BARE_CONTROL = 4,

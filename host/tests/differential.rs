@@ -398,8 +398,8 @@ fn largest_section(section: &mut Section) {
     }
 }
 
-/// Refusals and places in a stream that is cut into pieces of a size, by the library alone.
-fn refusals_by_library(kind: u8, stream: &[u8], widest: usize) -> Vec<(u8, u16)> {
+/// The refusals and places of the items in a stream that is cut into pieces of a size, by the library alone; a frame has neither.
+fn refusals_in(kind: u8, stream: &[u8], widest: usize) -> Vec<(u8, u16)> {
     let library = Library { null_for_empty: false };
     let (mut record, mut buffer, mut all) = ([0; RECORD], [0; STORE], Vec::new());
     library.receiver_fresh(kind, &mut record);
@@ -407,7 +407,7 @@ fn refusals_by_library(kind: u8, stream: &[u8], widest: usize) -> Vec<(u8, u16)>
         let mut rest = piece;
         while !rest.is_empty() {
             let fed = library.feed(&mut record, rest, &mut buffer);
-            if (fed.refusal, fed.place) != (0, 0) {
+            if (fed.refusal, fed.place, fed.frame_length) != (0, 0, 0) {
                 all.push((fed.refusal, fed.place));
             }
             // Nothing taken of a piece that is not empty: no receiver does that, and this loop must end.
@@ -446,7 +446,7 @@ impl Put {
         let Put { kind, number, place, escapes, stream } = self;
         let what = format!("{number} at {place} in pieces of {widest}, kind {kind}, escapes before it: {escapes:?}");
         let expected = vec![(*number, (*place).min(65_535) as u16)];
-        section.expect(&what, expected, refusals_by_library(*kind, stream, widest));
+        section.expect(&what, expected, refusals_in(*kind, stream, widest));
     }
 
     /// The stream up to a cut and then the rest, each in pieces of a size; in the rest each record is compared.

@@ -1,5 +1,5 @@
--- 01, The program and the host: `frame 0 69 0` (address, command, L), `refused 5`, `end 8`; 02 (vii): `refused 4 at 0`. ASCII, each line
--- ended by a line feed.
+-- 01, The program and the host: `frame 0 69 0` (address, command, L), `refused` and a number, `end 8`; 02 (vii): with 3 and 4 the place,
+-- `refused 4 at 0`. ASCII, each line ended by a line feed.
 use Prim.Native.Nat.{ℕ, zero, suc, _+_, _/_, _%_}
 use mathlib.Core.Bool.{cond}
 use mathlib.Core.List.{List, [], _∷_, _++_}

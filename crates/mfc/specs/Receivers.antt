@@ -82,7 +82,7 @@ abbrev pub paperLoaded : Loaded → List ℕ → Option Record
 paperLoaded (loaded.Held r) store = some (held r store)
 paperLoaded loaded.BadRecord store = none
 
--- what a call says: the refusal's number, 0 for none, its place, the length of a frame's body, and the bytes taken
+-- what a call says: the refusal's number, 0 for none, the place of 3 and 4, else 0, the length of a frame's body, and the bytes taken
 abbrev pub fed : Said → ℕ → MfcFed
 fed nothing taken = record { refusal = 0; place = 0; «frame_length» = 0; taken = taken }
 fed (gave (served n)) taken = record { refusal = 0; place = 0; «frame_length» = n; taken = taken }

@@ -1,7 +1,7 @@
 -- The receiver's record: its ranges, the fresh record of each kind, and what a byte or a silence mark does to it (docs/RECORD.md).
 -- To be believed are the record, its ranges and the fresh record, up to `fresh`. What follows is the model of the code: demand 3
 -- (Series.antt) says what comes of it for every series of calls, and every record within the ranges is left by some stream (`reached`).
-use Prim.Native.Nat.{ℕ, _+_, _-_, min}
+use Prim.Native.Nat.{ℕ, _+_, _-_}
 use mathlib.Core.Bool.{Bool, true, false, cond, _&&_}
 use mathlib.Core.List.{List, [], _∷_}
 use mathlib.Core.Option.{Option, none, some}
@@ -102,8 +102,8 @@ pendingIn BareControl n = true
 abbrev pub pending : Record → Bool
 pending r = pendingIn (r .mode) (r .len)
 
--- 02 (vii): the place of the fault that the mode tells: what was received before it is what is stored, as it was sent, and what was counted
--- past 260
+-- 02 (vii): the place of the fault that the mode tells is the number of bytes received before it: the stored ones as they were sent, and
+-- those counted past 260
 unfoldable pub placeIn : ℕ → List ℕ → ℕ
 placeIn n store = reportedPlace (length (stuff (take n store)) + (n - 260))
 
@@ -117,11 +117,11 @@ faultOf BareControl = 4
 
 -- the item of a stretch that a 7E ends here; outside there is none, and the value there is never asked for
 abbrev pub itemIn : Mode → Kind → ℕ → List ℕ → Item
-itemIn Outside kind n store = refused (3 carrying placeIn n store)
+itemIn Outside kind n store = refused (faultOf Outside carrying placeIn n store)
 itemIn Plain kind n store = cond (ltb 260 n) (refused (number 5)) (checkBody kind (take n store))
-itemIn Escaped kind n store = refused (3 carrying placeIn n store)
-itemIn BadEscape kind n store = refused (3 carrying placeIn n store)
-itemIn BareControl kind n store = refused (4 carrying placeIn n store)
+itemIn Escaped kind n store = refused (faultOf Escaped carrying placeIn n store)
+itemIn BadEscape kind n store = refused (faultOf BadEscape carrying placeIn n store)
+itemIn BareControl kind n store = refused (faultOf BareControl carrying placeIn n store)
 
 abbrev pub itemOf : Record → Item
 itemOf r = itemIn (r .mode) (r .kind) (r .len) (r .store)

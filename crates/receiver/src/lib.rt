@@ -312,7 +312,7 @@ fn less(a: usize, b: usize) -> usize
     if a < b { 0 } else { a - b }
 }
 
-// The length past 260 with a byte more that came as n bytes. It is no sum: that would be compiled as one with the sum of a stored byte's
+// The length past 260 with a byte more that came as n bytes. It is no sum: the compiler would share that with the sum of a stored byte's
 // length, and storing a byte would take a jump more.
 fn past(len: usize, n: usize) -> usize
     ensures { λ r. ⌜ r ≡ min (len + n) 65535 ⌝ }

@@ -8,7 +8,7 @@ use Rattle.refusal.specs.declared.Refusal.{Refusal}
 use Rattle.refusal.specs.declared.Refusal.the-variants.{NoRoom, BadRecord, BadEscape, BareControl, BodyTooLong, BodyTooShort, WrongLength, WrongChecksum, CutBySilence, AddressBroadcast, UnknownCommand, OutOfRange, BadFloat, ForeignReply, DeviceError, BadWordCount, WrongCrc, BadScale, BoardFull, BadTotal, BadTrailer, BadKind, WrongCount}
 
 infix 30 _carrying_
--- 01, Refusal numbers, and 02 (vii): `number 5`, or `17 carrying 3`
+-- 01, Refusal numbers: `number 5`, or `17 carrying 3`; 02 (vii): `4 carrying 0`
 pub data Numbered : Type 0 where
   number : ℕ → Numbered
   _carrying_ : ℕ → ℕ → Numbered

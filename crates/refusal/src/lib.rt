@@ -8,7 +8,7 @@ pub enum Refusal {
     NoRoom,
     // 2: receiver record outside its ranges; a board's table with an entry out of range, or with a node and kind twice.
     BadRecord,
-    // 3: 7D not followed by 5E, 5D, 31 or 33, or last in the stretch; the place of the 7D there.
+    // 3: 7D not followed by 5E, 5D, 31 or 33, or last in the stretch; the place of the 7D there, as received.
     BadEscape(u16),
     // 4: 11 or 13 not after a 7D; its place in the stretch, as received.
     BareControl(u16),

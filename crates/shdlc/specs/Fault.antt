@@ -1,6 +1,7 @@
 -- 02 (vii), what a place means: where a stretch stops being one that can be unstuffed. The proof is `placed` of proofs/Fault.antt. An
--- unstuffing that counts from 1, or in the unstuffed body, or reports the byte after the 7D, or a later fault, does not meet it.
-use Prim.Native.Nat.{ℕ}
+-- unstuffing that counts from 1 or in the unstuffed body, that reports the byte after the 7D or a later fault, or that stops at another
+-- place than 65,535, does not meet it.
+use Prim.Native.Nat.{ℕ, min}
 use mathlib.Core.Path.{_≡_}
 use mathlib.Core.Bool.{cond}
 use mathlib.Core.List.{List, [], _∷_, _++_}
@@ -8,7 +9,7 @@ use mathlib.Core.Option.{Option, none, some}
 use lib.Dec.{eqb}
 use lib.ListN.{length}
 use Rattle.refusal.specs.Refusals.{Numbered, _carrying_, served, refused}
-use Rattle.shdlc.specs.Stuffing.{escapes, leftOf, isControl, reportedPlace, unstuff}
+use Rattle.shdlc.specs.Stuffing.{escapes, leftOf, isControl, unstuff}
 
 -- row 3: "7D not followed by 5E, 5D, 31 or 33, or last in the stretch"
 abbrev pub unmeant : Option ℕ → Option ℕ
@@ -34,7 +35,7 @@ pub record Broken (stretch : List ℕ) (why : Numbered) : Type 0 where
   pub good : unstuff front ≡ served body
   pub n : ℕ
   pub bad : wrong byte rest ≡ some n
-  pub at : why ≡ n carrying reportedPlace (length front)
+  pub at : why ≡ n carrying min (length front) 65535
 
 -- a stretch is refused exactly where it is broken, and at the place of the byte that is wrong
 pub record Placed : Type 0 where
