@@ -38,3 +38,13 @@ exampleText =
     102 ∷ 114 ∷ 97 ∷ 109 ∷ 101 ∷ 32 ∷ 48 ∷ 32 ∷ 54 ∷ 57 ∷ 32 ∷ 48 ∷ 10
     ∷ 114 ∷ 101 ∷ 102 ∷ 117 ∷ 115 ∷ 101 ∷ 100 ∷ 32 ∷ 52 ∷ 32 ∷ 97 ∷ 116 ∷ 32 ∷ 48 ∷ 10
     ∷ 101 ∷ 110 ∷ 100 ∷ 32 ∷ 56 ∷ 10 ∷ []
+
+-- 02 (vii), places counted in the bytes as received: input 7E 7D 5D 11 7E 00 7D 7E gives `refused 4 at 2`, `refused 3 at 1`, `end 8`
+abbrev pub placesInput : List ℕ
+placesInput = 0x7E ∷ 0x7D ∷ 0x5D ∷ 0x11 ∷ 0x7E ∷ 0x00 ∷ 0x7D ∷ 0x7E ∷ []
+
+abbrev pub placesText : List ℕ
+placesText =
+    114 ∷ 101 ∷ 102 ∷ 117 ∷ 115 ∷ 101 ∷ 100 ∷ 32 ∷ 52 ∷ 32 ∷ 97 ∷ 116 ∷ 32 ∷ 50 ∷ 10
+    ∷ 114 ∷ 101 ∷ 102 ∷ 117 ∷ 115 ∷ 101 ∷ 100 ∷ 32 ∷ 51 ∷ 32 ∷ 97 ∷ 116 ∷ 32 ∷ 49 ∷ 10
+    ∷ 101 ∷ 110 ∷ 100 ∷ 32 ∷ 56 ∷ 10 ∷ []

@@ -38,7 +38,8 @@ numberOfMode BareControl = 4
 abbrev pub modeOf : ℕ → Mode
 modeOf n = cond (eqb n 0) Outside (cond (eqb n 1) Plain (cond (eqb n 2) Escaped (cond (eqb n 3) BadEscape BareControl)))
 
--- outside a stretch no byte is held; inside one up to 260 unstuffed bytes, then one more for each byte received, and 65,535 stands for more
+-- outside a stretch no byte is held; inside one up to 260 unstuffed bytes, and past these what each more was received as, one or two, is
+-- counted; 65,535 stands for more
 abbrev pub lengthInRange : Mode → ℕ → Bool
 lengthInRange Outside n = eqb n 0
 lengthInRange Plain n = ltb n 65536
