@@ -16,8 +16,8 @@
  *
  * A receiver's record is the first MFC_RECORD_SIZE bytes of a slice that the caller keeps from
  * call to call: kind (0 requests, 1 replies), mode (0 outside a frame, 1 in one, 2 after a 7D,
- * 3 and 4 the refusal found), length (high byte, low byte), and 260 bytes of store. Bytes past
- * them are not touched.
+ * 3 and 4 the refusal found), length (high byte, low byte), count of noise bytes (four bytes,
+ * the highest first), and 260 bytes of store. Bytes past them are not touched.
  *
  * The value of a request or a reply is a number, a float by its bits. Beside a request or a
  * reply that carries none it is not looked at. In a reply FFFFFFFF hex is an invalid reading,
@@ -45,7 +45,7 @@ extern "C" {
 /* Sizes, start values, and the kinds of a log's records. */
 enum {
     /* The bytes of a receiver's record. */
-    MFC_RECORD_SIZE = 264,
+    MFC_RECORD_SIZE = 268,
     /* The bytes that mfc_feed needs for a frame's body. */
     MFC_FRAME_ROOM = 260,
     /* The longest frame that mfc_write_request writes: 7E, command, L, subcommand, 7E, and all
@@ -271,6 +271,15 @@ typedef struct {
     size_t taken;
 } mfc_fed;
 
+/* What asking a receiver for its noise answers. */
+typedef struct {
+    /* The refusal's number, 0 for none. */
+    uint8_t refusal;
+    /* The bytes thrown away as noise since the receiver was made; 4,294,967,295 for more too. 0
+     * with a refusal. */
+    uint32_t count;
+} mfc_noise;
+
 /* What reading words answers, and checking and listing a log. */
 typedef struct {
     /* The refusal's number, 0 for none. */
@@ -391,6 +400,12 @@ mfc_fed mfc_feed(uint8_t *record, size_t size, const uint8_t *piece, size_t n,
  * is under MFC_RECORD_SIZE or a field of the record is out of its range; 9 where bytes of a
  * frame were cut off. */
 uint8_t mfc_silence(uint8_t *record, size_t size);
+
+/* The count of bytes that the receiver whose record is lent has thrown away as noise: those
+ * before the first 7E, and those after silence up to the next 7E. A 7E is no noise, nor are the
+ * bytes of a stretch that is refused or cut off. Refusal 2 where size is under MFC_RECORD_SIZE
+ * or a field of the record is out of its range. */
+mfc_noise mfc_receiver_noise(const uint8_t *record, size_t size);
 
 /* The CRC-8 of n bytes from a start value, MFC_START_LIQUID or MFC_START_SFC6; any other is
  * taken too. It refuses nothing. */

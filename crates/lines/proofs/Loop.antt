@@ -17,7 +17,7 @@ use Rattle.shdlc.proofs.Stream.{map-append}
 use Rattle.receiver.specs.declared.Fed.{Fed}
 use Rattle.receiver.specs.Record.{Record, held, inRange, opened, pending, itemOf, nextByte, nextRecord, recordFrom}
 use Rattle.receiver.specs.Calls.{Outcome, paperAnswer, paperFed, saidOf, bufferOf, completed, unfinished, closes, Scan, scanFrom, fedBy, feedOf}
-use Rattle.receiver.proofs.Cases.{feed-scan}
+use Rattle.receiver.proofs.Cases.{range-few, feed-scan, few-scan}
 use Rattle.receiver.proofs.EverySeries.{record-append}
 use Rattle.lines.specs.Program.{lineOf}
 use Rattle.lines.specs.Listing.{shown, shownBy, fitting}
@@ -148,8 +148,10 @@ take-laid room text place h =
     (take-append-add front (text ++ past) (length text) ∙ ap (λ (l : List ℕ). front ++ l) (take-append-seam text past))
 
 -- after an item the record is within its ranges
-range-opened : (r s : Record) → s ≡ opened r → length (s .store) ≡ 260 → inRange s ≡ true
-range-opened r s e h = ap inRange e ∙ rw (eq-eqb (length (r .store)) 260 (sym (ap (λ (x : Record). length (x .store)) e) ∙ h))
+range-opened : (r s : Record) → s ≡ opened r → length (s .store) ≡ 260 → r .noise < 4294967296 → inRange s ≡ true
+range-opened r s e h few =
+    ap inRange e
+    ∙ rw (eq-eqb (length (r .store)) 260 (sym (ap (λ (x : Record). length (x .store)) e) ∙ h), lt-ltb (r .noise) 4294967296 few)
 
 -- the bytes passed, and what a listing of the rest gives
 abbrev pub shifted : ℕ → Part → Part
@@ -227,17 +229,17 @@ module _ (r : Record) (piece frame out : List ℕ) (i o : ℕ) where
         within = omega (arith, st .within);
         more = omega (arith, q .some (omega arith));
         place = omega (arith, laid .0, laid-within out (saidLine (paperAnswer (f .answer)) buffer) o fits (ap length (sym (laid .1)) ∙ kept));
-        range = λ still size₂. go (s .closed) (s .before) refl leaves still size₂ (q .whole) n-is;
+        range = λ still size₂. go (s .closed) (s .before) (few-scan rest 0 r (range-few r range)) refl leaves still size₂ (q .whole) n-is;
         same =
             ap (λ (l : List ℕ). shifted (i + f .taken) (listOf (held (f .receiver) store) l room p)) (sym (drop-drop (f .taken) i piece))
             ∙ whole-same r rest out i o st laid kept fits;
       }
     where
-      go : (t : Bool) (b : Record) {s : Bool} {n : ℕ} → s ≡ t → held (f .receiver) store ≡ cond s (opened b) b → i + f .taken < length piece
+      go : (t : Bool) (b : Record) → b .noise < 4294967296 → {s : Bool} {n : ℕ} → s ≡ t → held (f .receiver) store ≡ cond s (opened b) b → i + f .taken < length piece
           → length store ≡ 260 → (s ≡ false → n ≡ length (drop i piece)) → f .taken ≡ n → inRange (held (f .receiver) store) ≡ true
-      go true b {s} e leaves still size₂ whole is =
-          range-opened b (held (f .receiver) store) (leaves ∙ ap (λ (t : Bool). cond t (opened b) b) e) size₂
-      go false b e leaves still size₂ whole is = absurd (omega (arith, whole e, is, length-drop i piece))
+      go true b few {s} e leaves still size₂ whole is =
+          range-opened b (held (f .receiver) store) (leaves ∙ ap (λ (t : Bool). cond t (opened b) b) e) size₂ few
+      go false b few e leaves still size₂ whole is = absurd (omega (arith, whole e, is, length-drop i piece))
 
 -- the loop's end: the piece is used up, or the room
 pub nothing-left : (l : List ℕ) (i room : ℕ) (r : Record) → length l ≤ i → fitting room r (drop i l) ≡ []

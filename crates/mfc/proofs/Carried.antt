@@ -7,7 +7,7 @@ use mathlib.Core.Option.{Option, some}
 use Prim.Native.Nat.{ℕ, _+_, _*_, _/_, _%_, _≤_, _<_}
 use native.Mathlib.Omega.{arith}
 use borrow.Author.Tests.{le-ltb, ltb-true, eqb-true}
-use lib.Dec.{eqb}
+use lib.Dec.{ltb, eqb}
 use lib.ListN.{length, drop}
 use lib.Seq.{take-at}
 use Rattle.refusal.specs.Room.{overlay}
@@ -17,7 +17,7 @@ use Rattle.shdlc.specs.declared.Kind.the-variants.{Request, Reply}
 use Rattle.receiver.specs.declared.Mode.{Mode}
 use Rattle.receiver.specs.declared.Mode.the-variants.{Outside, Plain, Escaped, BadEscape, BareControl}
 use Rattle.receiver.specs.Record.{Record, numberOfMode, lengthInRange, inRange}
-use Rattle.mfc.specs.Receivers.{numberOfKind, kindAt, modeAt, bytesOf, storeIn, fieldsIn, recordIn, feedAs, feedRecord, silenceAs, silenceRecord}
+use Rattle.mfc.specs.Receivers.{numberOfKind, kindAt, modeAt, recordSize, bytesOf, storeIn, fieldsIn, recordIn, feedAs, feedRecord, silenceAs, silenceRecord, noiseAs, noiseRecord}
 
 pub kind-back : (kind : Kind) → kindAt (numberOfKind kind) ≡ some kind
 kind-back Request = refl
@@ -37,19 +37,30 @@ length-below Escaped n h = ltb-true n 65536 h
 length-below BadEscape n h = ltb-true n 65536 h
 length-below BareControl n h = ltb-true n 65536 h
 
-pub in-range : (r : Record) → inRange r ≡ true → (length (r .store) ≡ 260) × (r .len < 65536)
-in-range r h = go (eqb (length (r .store)) 260) refl h
-  where
-    go : (t : Bool) → eqb (length (r .store)) 260 ≡ t → (t && lengthInRange (r .mode) (r .len)) ≡ true
-        → (length (r .store) ≡ 260) × (r .len < 65536)
-    go true e g = (eqb-true _ _ e, length-below (r .mode) (r .len) g)
-    go false e g = absurd (false≢true g)
+both : (t u : Bool) → (t && u) ≡ true → (t ≡ true) × (u ≡ true)
+both true u h = (refl, h)
+both false u h = absurd (false≢true h)
+
+pub in-range : (r : Record) → inRange r ≡ true → (length (r .store) ≡ 260) × (r .len < 65536) × (r .noise < 4294967296)
+in-range r h =
+    let s = both (eqb (length (r .store)) 260) (ltb (r .noise) 4294967296 && lengthInRange (r .mode) (r .len)) h in
+    let n = both (ltb (r .noise) 4294967296) (lengthInRange (r .mode) (r .len)) (s .1) in
+    (eqb-true _ _ (s .0), length-below (r .mode) (r .len) (n .1), ltb-true _ _ (n .0))
 
 two-bytes : (n : ℕ) → n < 65536 → n / 256 % 256 * 256 + n % 256 ≡ n
 two-bytes n h = omega arith
 
-module _ (lent : List ℕ) (r : Record) (long : 264 ≤ length lent) (good : inRange r ≡ true) where
-  put-long : 264 ≤ length (overlay lent 0 (bytesOf r))
+four-bytes : (n : ℕ) → n < 4294967296 → ((n / 16777216 % 256 * 256 + n / 65536 % 256) * 256 + n / 256 % 256) * 256 + n % 256 ≡ n
+four-bytes n h =
+    let a : n / 16777216 ≡ n / 65536 / 256 = omega arith in
+    let b : n / 65536 ≡ n / 256 / 256 = omega arith in
+    let c : n / 65536 < 65536 = omega arith in
+    let d : n / 16777216 % 256 * 256 + n / 65536 % 256 ≡ n / 65536 = rw a (two-bytes (n / 65536) c) in
+    let e : n / 65536 * 256 + n / 256 % 256 ≡ n / 256 = omega arith in
+    rw (d, e) (omega arith)
+
+module _ (lent : List ℕ) (r : Record) (long : recordSize ≤ length lent) (good : inRange r ≡ true) where
+  put-long : recordSize ≤ length (overlay lent 0 (bytesOf r))
   put-long =
       let size = in-range r good .0 in
       omega (arith, length-overlay lent 0 (bytesOf r) (omega arith))
@@ -61,7 +72,7 @@ module _ (lent : List ℕ) (r : Record) (long : 264 ≤ length lent) (good : inR
   fields-again : fieldsIn (overlay lent 0 (bytesOf r)) ≡ some r
   unfolding fieldsIn overlay
   fields-again =
-      rw (le-ltb (length (overlay lent 0 (bytesOf r))) 264 put-long, store-back, kind-back (r .kind), mode-back (r .mode), two-bytes (r .len) (in-range r good .1))
+      rw (le-ltb (length (overlay lent 0 (bytesOf r))) recordSize put-long, store-back, kind-back (r .kind), mode-back (r .mode), two-bytes (r .len) (in-range r good .1), four-bytes (r .noise) (in-range r good .2))
 
   pub found-again : recordIn (overlay lent 0 (bytesOf r)) ≡ some r
   unfolding recordIn
@@ -74,3 +85,7 @@ module _ (lent : List ℕ) (r : Record) (long : 264 ≤ length lent) (good : inR
   pub silence-again : silenceRecord (overlay lent 0 (bytesOf r)) ≡ silenceAs (some r) (overlay lent 0 (bytesOf r))
   unfolding silenceRecord
   silence-again = ap (λ (o : Option Record). silenceAs o (overlay lent 0 (bytesOf r))) found-again
+
+  pub noise-again : noiseRecord (overlay lent 0 (bytesOf r)) ≡ noiseAs (some r)
+  unfolding noiseRecord
+  noise-again = ap noiseAs found-again

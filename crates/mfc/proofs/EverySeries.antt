@@ -11,16 +11,16 @@ use lib.Seq.{drop-append-seam, take-at}
 use Rattle.refusal.specs.Refusals.{number, _carrying_, isPlaced, served, refused}
 use Rattle.refusal.specs.Room.{overlay}
 use Rattle.shdlc.specs.declared.Kind.{Kind}
-use Rattle.shdlc.specs.Stream.{Event, items}
-use Rattle.receiver.specs.Record.{Record, inRange, pending, fresh, recordOf}
+use Rattle.shdlc.specs.Stream.{Event, items, noise}
+use Rattle.receiver.specs.Record.{Record, inRange, limited, pending, fresh, recordOf}
 use Rattle.receiver.specs.Calls.{Said, nothing, gave, Result, Outcome, feedOf, silenceOf}
 use Rattle.receiver.specs.Series.{Call, feeding, silence, outcome, results, recordAfter, reported, reports, streamOf, expectedFrom}
 use Rattle.receiver.proofs.Cases.{feed-room, quiet, silence-said}
 use Rattle.receiver.proofs.EverySeries.{Sayable, AllSayable, all-sayable, demand3}
 use Rattle.mfc.specs.declared.answers.MfcFed.{MfcFed}
-use Rattle.mfc.specs.Receivers.{numberOfKind, bytesOf, fed, refusalIn, freshRecord, untouched, feedRecord}
+use Rattle.mfc.specs.Receivers.{numberOfKind, recordSize, bytesOf, fed, refusalIn, freshRecord, untouched, feedRecord, noiseTold, noiseRecord}
 use Rattle.mfc.specs.Series.{marked, called, answers, bytesAfter, told, heard, heardIn, NoneTold2, begun, laidIn, SeriesOverBytes}
-use Rattle.mfc.proofs.Carried.{kind-back, in-range, feed-again, silence-again}
+use Rattle.mfc.proofs.Carried.{kind-back, in-range, feed-again, silence-again, noise-again}
 
 -- a record's bytes over another's: what is left is the last
 over-again : (lent xs ys : List ℕ) → length xs ≡ length ys → overlay (overlay lent 0 xs) 0 ys ≡ overlay lent 0 ys
@@ -49,7 +49,7 @@ mark-told lent r true = refl
 mark-told lent r false = refl
 
 -- a call on a record's bytes is the call on the record
-module _ (lent : List ℕ) (long : 264 ≤ length lent) (r : Record) (good : inRange r ≡ true) where
+module _ (lent : List ℕ) (long : recordSize ≤ length lent) (r : Record) (good : inRange r ≡ true) where
   abbrev bytes : List ℕ
   bytes = overlay lent 0 (bytesOf r)
 
@@ -116,7 +116,7 @@ unfolding recordAfter
 after-append [] calls r = refl
 after-append (call ∷ done) calls r = after-append done calls (outcome r call .leaves)
 
-module _ (kind : Kind) (lent : List ℕ) (long : 264 ≤ length lent) where
+module _ (kind : Kind) (lent : List ℕ) (long : recordSize ≤ length lent) where
   in-ranges : (done : List Call) → inRange (recordAfter (fresh kind) done) ≡ true
   in-ranges done = rw (demand3 kind .end-record done) (demand3 kind .in-ranges (streamOf kind done))
 
@@ -143,17 +143,17 @@ module _ (kind : Kind) (lent : List ℕ) (long : 264 ≤ length lent) where
       let g : inRange r ≡ true = ap inRange e ∙ in-ranges done in
       goes-call r call calls (on-call lent long r g call h) (goes calls (done ++ (call ∷ [])) (outcome r call .leaves) n)
 
-  -- the record's bytes are the first 264
+  -- the record's bytes are the first
   abbrev leftBy : List Call → Record
   leftBy calls = recordOf kind (streamOf kind calls)
 
   laid-in : (r : Record) → inRange r ≡ true → overlay lent 0 (bytesOf r) ≡ laidIn lent r
   unfolding overlay
-  laid-in r good = let n : 0 + length (bytesOf r) ≡ 264 = omega (arith, in-range r good .0) in ap (λ (k : ℕ). bytesOf r ++ drop k lent) n
+  laid-in r good = let n : 0 + length (bytesOf r) ≡ recordSize = omega (arith, in-range r good .0) in ap (λ (k : ℕ). bytesOf r ++ drop k lent) n
 
   begins : freshRecord (numberOfKind kind) lent ≡ (0, overlay lent 0 (bytesOf (fresh kind)))
   unfolding freshRecord
-  begins = rw (le-ltb (length lent) 264 long, kind-back kind)
+  begins = rw (le-ltb (length lent) recordSize long, kind-back kind)
 
   fresh-bytes : begun kind lent ≡ overlay lent 0 (bytesOf (fresh kind))
   fresh-bytes = ap (λ (x : ℕ × List ℕ). x .1) begins
@@ -185,11 +185,18 @@ module _ (kind : Kind) (lent : List ℕ) (long : 264 ≤ length lent) where
       ∙ ap (λ (r : Record). overlay lent 0 (bytesOf r)) (demand3 kind .end-record calls)
       ∙ laid-in (leftBy calls) (demand3 kind .in-ranges (streamOf kind calls))
 
-  first : (calls : List Call) → take 264 (bytesAfter (begun kind lent) calls) ≡ bytesOf (leftBy calls)
+  first : (calls : List Call) → take recordSize (bytesAfter (begun kind lent) calls) ≡ bytesOf (leftBy calls)
   first calls =
       let good = demand3 kind .in-ranges (streamOf kind calls) in
-      let n : length (bytesOf (leftBy calls)) ≡ 264 = omega (arith, in-range (leftBy calls) good .0) in
-      ap (take 264) (end calls) ∙ take-at (bytesOf (leftBy calls)) (drop 264 lent) 264 n
+      let n : length (bytesOf (leftBy calls)) ≡ recordSize = omega (arith, in-range (leftBy calls) good .0) in
+      ap (take recordSize) (end calls) ∙ take-at (bytesOf (leftBy calls)) (drop recordSize lent) recordSize n
+
+  noise-told : (calls : List Call)
+      → noiseRecord (bytesAfter (begun kind lent) calls) ≡ record { refusal = 0; count = limited (noise (streamOf kind calls)) }
+  noise-told calls =
+      ap (λ (l : List ℕ). noiseRecord (bytesAfter l calls)) fresh-bytes ∙ ap noiseRecord (from-fresh calls .leaves)
+      ∙ noise-again lent (recordAfter (fresh kind) calls) long (in-ranges calls)
+      ∙ ap (λ (n : ℕ). noiseTold (served n)) (demand3 kind .noise-count calls)
 
   some-taken : (calls : List Call) (piece frame : List ℕ) → 1 ≤ length piece → 260 ≤ length frame
       → 1 ≤ feedRecord (bytesAfter (begun kind lent) calls) piece frame .0 .taken
@@ -214,6 +221,7 @@ series-over-bytes kind =
       never-2 = none-2 kind;
       all-items = all-heard kind;
       end-record = end kind;
+      noise-count = noise-told kind;
       one-record =
           λ lent other long big calls others same.
           first kind lent long calls

@@ -1,12 +1,13 @@
--- The C interface, a receiver. Its record is the first 264 bytes of a lent slice: the kind (0 request, 1 reply), the mode (0 outside, 1
--- plain, 2 escaped, 3 and 4 the refusal found), the length (high byte, low byte), the store. What each of the three calls gives.
+-- The C interface, a receiver. Its record is the first 268 bytes of a lent slice: the kind (0 request, 1 reply), the mode (0 outside, 1
+-- plain, 2 escaped, 3 and 4 the refusal found), the length (high byte, low byte), the count of noise bytes (four bytes, the highest
+-- first), the store. What each of the four calls gives.
 use Prim.Native.Nat.{ℕ, zero, suc, _+_, _*_, _/_, _%_}
 use mathlib.Core.Bool.{cond}
 use mathlib.Core.List.{List, [], _∷_, _++_}
 use mathlib.Core.Option.{Option, none, some}
 use lib.Dec.{ltb}
 use lib.ListN.{length, getD, take, drop}
-use Rattle.refusal.specs.Refusals.{number, numberIn, placeBy, served, refused}
+use Rattle.refusal.specs.Refusals.{number, numberIn, placeBy, Answered, served, refused}
 use Rattle.refusal.specs.Room.{overlay}
 use Rattle.shdlc.specs.declared.Kind.{Kind}
 use Rattle.shdlc.specs.declared.Kind.the-variants.{Request, Reply}
@@ -15,6 +16,7 @@ use Rattle.receiver.specs.declared.Mode.the-variants.{Outside, Plain, Escaped, 
 use Rattle.receiver.specs.Record.{Record, held, numberOfMode, inRange, fresh}
 use Rattle.receiver.specs.Calls.{Said, nothing, gave, Outcome, feedOf, silenceOf}
 use Rattle.mfc.specs.declared.answers.MfcFed.{MfcFed}
+use Rattle.mfc.specs.declared.answers.MfcNoise.{MfcNoise}
 use Rattle.mfc.specs.declared.receivers.KindAt.{KindAt}
 use Rattle.mfc.specs.declared.receivers.KindAt.the-variants as kinds
 use Rattle.mfc.specs.declared.receivers.ModeAt.{ModeAt}
@@ -40,26 +42,39 @@ kindAt n = nth (Request ∷ Reply ∷ []) n
 abbrev pub modeAt : ℕ → Option Mode
 modeAt n = nth (Outside ∷ Plain ∷ Escaped ∷ BadEscape ∷ BareControl ∷ []) n
 
--- a record's bytes: kind, mode, length (high byte, low byte), store
-abbrev pub headOf : Kind → Mode → ℕ → List ℕ
-headOf kind mode len = numberOfKind kind ∷ numberOfMode mode ∷ len / 256 % 256 ∷ len % 256 ∷ []
+-- the bytes of a record
+abbrev pub recordSize : ℕ
+recordSize = 268
+
+-- a record's bytes: kind, mode, length (high byte, low byte), noise count (four bytes, the highest first), store
+abbrev pub countBytes : ℕ → List ℕ
+countBytes n = n / 16777216 % 256 ∷ n / 65536 % 256 ∷ n / 256 % 256 ∷ n % 256 ∷ []
+
+abbrev pub headOf : Kind → Mode → ℕ → ℕ → List ℕ
+headOf kind mode len noise = numberOfKind kind ∷ numberOfMode mode ∷ len / 256 % 256 ∷ len % 256 ∷ countBytes noise
 
 abbrev pub bytesOf : Record → List ℕ
-bytesOf r = headOf (r .kind) (r .mode) (r .len) ++ r .store
+bytesOf r = headOf (r .kind) (r .mode) (r .len) (r .noise) ++ r .store
 
 -- the fields in lent bytes, whatever the length is: none where there are too few bytes, or where a number is that of no kind or mode
-abbrev pub storeIn : List ℕ → List ℕ
-storeIn lent = take 260 (drop 4 lent)
+abbrev pub lengthIn : List ℕ → ℕ
+lengthIn lent = getD lent 2 0 * 256 + getD lent 3 0
 
-abbrev pub fieldsOf : Option Kind → Option Mode → ℕ → List ℕ → Option Record
-fieldsOf none mode len store = none
-fieldsOf (some kind) none len store = none
-fieldsOf (some kind) (some mode) len store = some (record { kind = kind; mode = mode; len = len; store = store })
+abbrev pub countIn : List ℕ → ℕ
+countIn lent = ((getD lent 4 0 * 256 + getD lent 5 0) * 256 + getD lent 6 0) * 256 + getD lent 7 0
+
+abbrev pub storeIn : List ℕ → List ℕ
+storeIn lent = take 260 (drop 8 lent)
+
+abbrev pub fieldsOf : Option Kind → Option Mode → ℕ → ℕ → List ℕ → Option Record
+fieldsOf none mode len noise store = none
+fieldsOf (some kind) none len noise store = none
+fieldsOf (some kind) (some mode) len noise store = some (record { kind = kind; mode = mode; len = len; noise = noise; store = store })
 
 unfoldable pub fieldsIn : List ℕ → Option Record
 fieldsIn lent =
-    cond (ltb (length lent) 264) none
-    (fieldsOf (kindAt (getD lent 0 0)) (modeAt (getD lent 1 0)) (getD lent 2 0 * 256 + getD lent 3 0) (storeIn lent))
+    cond (ltb (length lent) recordSize) none
+    (fieldsOf (kindAt (getD lent 0 0)) (modeAt (getD lent 1 0)) (lengthIn lent) (countIn lent) (storeIn lent))
 
 -- the record in lent bytes: none where they hold none that is within its ranges
 abbrev pub ranged : Option Record → Option Record
@@ -93,13 +108,13 @@ refusalIn nothing = 0
 refusalIn (gave (served n)) = 0
 refusalIn (gave (refused n)) = numberIn n
 
--- a fresh record: 1 under 264 bytes, then 12 for a number of no kind; else the record's bytes at the start, and all else as it was
+-- a fresh record: 1 under 268 bytes, then 12 for a number of no kind; else the record's bytes at the start, and all else as it was
 abbrev pub freshAs : Option Kind → List ℕ → ℕ × List ℕ
 freshAs none lent = (12, lent)
 freshAs (some kind) lent = (0, overlay lent 0 (bytesOf (fresh kind)))
 
 unfoldable pub freshRecord : ℕ → List ℕ → ℕ × List ℕ
-freshRecord kind lent = cond (ltb (length lent) 264) (1, lent) (freshAs (kindAt kind) lent)
+freshRecord kind lent = cond (ltb (length lent) recordSize) (1, lent) (freshAs (kindAt kind) lent)
 
 -- what a call on a record gives: the answer, the lent record and the lent frame afterwards
 abbrev pub fedBytes : Outcome → List ℕ → MfcFed × List ℕ × List ℕ
@@ -124,3 +139,15 @@ silenceAs (some r) lent = (refusalIn (silenceOf r .result .said), overlay lent 0
 
 unfoldable pub silenceRecord : List ℕ → ℕ × List ℕ
 silenceRecord lent = silenceAs (recordIn lent) lent
+
+-- the count of noise bytes: the refusal's number, 0 for none, and the count; 2 as above
+abbrev pub noiseTold : Answered ℕ → MfcNoise
+noiseTold (served n) = record { refusal = 0; count = n }
+noiseTold (refused n) = record { refusal = numberIn n; count = 0 }
+
+abbrev pub noiseAs : Option Record → MfcNoise
+noiseAs none = noiseTold (refused (number 2))
+noiseAs (some r) = noiseTold (served (r .noise))
+
+unfoldable pub noiseRecord : List ℕ → MfcNoise
+noiseRecord lent = noiseAs (recordIn lent)

@@ -7,12 +7,12 @@ use lib.Dec.{eqb}
 use lib.ListN.{length, take, drop}
 use Rattle.refusal.specs.Refusals.{Numbered, number, _carrying_, isPlaced, served, refused}
 use Rattle.shdlc.specs.declared.Kind.{Kind}
-use Rattle.shdlc.specs.Stream.{Item, items}
-use Rattle.receiver.specs.Record.{Record, fresh, recordOf}
+use Rattle.shdlc.specs.Stream.{Item, items, noise}
+use Rattle.receiver.specs.Record.{Record, limited, fresh, recordOf}
 use Rattle.receiver.specs.Calls.{Result}
 use Rattle.receiver.specs.Series.{Call, feeding, silence, streamOf, expectedFrom}
 use Rattle.mfc.specs.declared.answers.MfcFed.{MfcFed}
-use Rattle.mfc.specs.Receivers.{numberOfKind, bytesOf, fed, freshRecord, feedRecord, silenceRecord}
+use Rattle.mfc.specs.Receivers.{numberOfKind, recordSize, bytesOf, fed, freshRecord, feedRecord, silenceRecord, noiseRecord}
 
 -- what a call of C gives: its answer, the record's bytes and the frame afterwards; a mark answers a refusal's number alone
 abbrev pub marked : ℕ × List ℕ → MfcFed × List ℕ × List ℕ
@@ -60,28 +60,31 @@ begun kind lent = freshRecord (numberOfKind kind) lent .1
 
 -- a record's bytes at the start of lent ones; those past them are as they were
 abbrev pub laidIn : List ℕ → Record → List ℕ
-laidIn lent r = bytesOf r ++ drop 264 lent
+laidIn lent r = bytesOf r ++ drop recordSize lent
 
--- Demand 3, for C: every series of calls after `mfc_receiver_fresh` over any 264 lent bytes or more. What the receiver's own claim says of
+-- Demand 3, for C: every series of calls after `mfc_receiver_fresh` over any 268 lent bytes or more. What the receiver's own claim says of
 -- cutting a stream speaks of the bytes taken, which `each-call` says here too.
 pub record SeriesOverBytes (kind : Kind) : Type 0 where
   -- the series begins with the fresh record
-  pub fresh-record : (lent : List ℕ) → 264 ≤ length lent → freshRecord (numberOfKind kind) lent ≡ (0, laidIn lent (fresh kind))
+  pub fresh-record : (lent : List ℕ) → recordSize ≤ length lent → freshRecord (numberOfKind kind) lent ≡ (0, laidIn lent (fresh kind))
   -- each call's answer, the bytes it took and the lent frame afterwards are those that the stream says
-  pub each-call : (lent : List ℕ) → 264 ≤ length lent → (calls : List Call)
+  pub each-call : (lent : List ℕ) → recordSize ≤ length lent → (calls : List Call)
       → answers (begun kind lent) calls ≡ map told (expectedFrom kind [] calls)
   -- "Refusal 2 never comes in a series."
-  pub never-2 : (lent : List ℕ) → 264 ≤ length lent → (calls : List Call) → NoneTold2 (answers (begun kind lent) calls)
+  pub never-2 : (lent : List ℕ) → recordSize ≤ length lent → (calls : List Call) → NoneTold2 (answers (begun kind lent) calls)
   -- what C is told of, calls refused with 1 left out, is the stream's list
-  pub all-items : (lent : List ℕ) → 264 ≤ length lent → (calls : List Call)
+  pub all-items : (lent : List ℕ) → recordSize ≤ length lent → (calls : List Call)
       → heardIn (answers (begun kind lent) calls) ≡ items kind (streamOf kind calls)
   -- the record's bytes at the end are a function of the kind and the stream
-  pub end-record : (lent : List ℕ) → 264 ≤ length lent → (calls : List Call)
+  pub end-record : (lent : List ℕ) → recordSize ≤ length lent → (calls : List Call)
       → bytesAfter (begun kind lent) calls ≡ laidIn lent (recordOf kind (streamOf kind calls))
-  -- two series with the same stream end in the same 264 bytes, whatever was lent for each
-  pub one-record : (lent other : List ℕ) → 264 ≤ length lent → 264 ≤ length other → (calls others : List Call)
+  -- 02 (viii): the count that C is then told is "the stream's noise bytes, or that limit if they are more"
+  pub noise-count : (lent : List ℕ) → recordSize ≤ length lent → (calls : List Call)
+      → noiseRecord (bytesAfter (begun kind lent) calls) ≡ record { refusal = 0; count = limited (noise (streamOf kind calls)) }
+  -- two series with the same stream end in the same 268 bytes, whatever was lent for each
+  pub one-record : (lent other : List ℕ) → recordSize ≤ length lent → recordSize ≤ length other → (calls others : List Call)
       → streamOf kind calls ≡ streamOf kind others
-      → take 264 (bytesAfter (begun kind lent) calls) ≡ take 264 (bytesAfter (begun kind other) others)
+      → take recordSize (bytesAfter (begun kind lent) calls) ≡ take recordSize (bytesAfter (begun kind other) others)
   -- a call that is lent 260 bytes takes at least one byte of a piece that has one: a loop that hands in what is left comes to an end
-  pub progress : (lent : List ℕ) → 264 ≤ length lent → (calls : List Call) (piece frame : List ℕ) → 1 ≤ length piece → 260 ≤ length frame
+  pub progress : (lent : List ℕ) → recordSize ≤ length lent → (calls : List Call) (piece frame : List ℕ) → 1 ≤ length piece → 260 ≤ length frame
       → 1 ≤ feedRecord (bytesAfter (begun kind lent) calls) piece frame .0 .taken

@@ -70,6 +70,15 @@ pub struct MfcFed {
     pub taken: usize,
 }
 
+// What asking a receiver for its noise answers.
+#[repr(C)]
+pub struct MfcNoise {
+    // The refusal's number, 0 for none.
+    pub refusal: u8,
+    // The bytes thrown away as noise since the receiver was made; 4,294,967,295 for more too. 0 with a refusal.
+    pub count: u32,
+}
+
 // What reading words answers, and checking and listing a log.
 #[repr(C)]
 pub struct MfcWords {

@@ -14,8 +14,8 @@
 // to 9. A writer that succeeds changes only the bytes of its answer.
 //
 // A receiver's record is the first MFC_RECORD_SIZE bytes of a slice that the caller keeps from call to call: kind (0 requests, 1
-// replies), mode (0 outside a frame, 1 in one, 2 after a 7D, 3 and 4 the refusal found), length (high byte, low byte), and 260 bytes of
-// store. Bytes past them are not touched.
+// replies), mode (0 outside a frame, 1 in one, 2 after a 7D, 3 and 4 the refusal found), length (high byte, low byte), count of noise
+// bytes (four bytes, the highest first), and 260 bytes of store. Bytes past them are not touched.
 //
 // The value of a request or a reply is a number, a float by its bits. Beside a request or a reply that carries none it is not looked at.
 // In a reply FFFFFFFF hex is an invalid reading, 7F800000 plus infinity and FF800000 minus infinity.

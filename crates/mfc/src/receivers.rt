@@ -1,9 +1,11 @@
 // A receiver whose record is the first RECORD_SIZE bytes of a lent slice.
 use crate::answers::MfcFed;
+use crate::answers::MfcNoise;
 use crate::sizes::RECORD_SIZE;
 use receiver::Answer;
 use receiver::Made;
 use receiver::Mode;
+use receiver::NoiseCount;
 use receiver::Receiver;
 use refusal::Refusal;
 use shdlc::Kind;
@@ -13,8 +15,8 @@ ghost use Prim.Native.Nat.{_+_, _*_, _/_, _%_, _≤_};
 ghost use lib.ListN.{length};
 ghost use Rattle.refusal.specs.Room.{overlay};
 ghost use Rattle.receiver.specs.Record.{numberOfMode};
-ghost use Rattle.receiver.specs.Calls.{paperAnswer};
-ghost use Rattle.mfc.specs.Receivers.{numberOfKind, kindAt, modeAt, paperKind, paperMode, paperLoaded, headOf, storeIn, fieldsIn, fed, refusalIn, freshRecord, feedRecord, silenceRecord};
+ghost use Rattle.receiver.specs.Calls.{paperAnswer, paperNoise};
+ghost use Rattle.mfc.specs.Receivers.{numberOfKind, kindAt, modeAt, paperKind, paperMode, paperLoaded, countBytes, headOf, countIn, storeIn, fieldsIn, fed, refusalIn, noiseTold, freshRecord, feedRecord, silenceRecord, noiseRecord};
 
 // A kind of frame, a mode and a record by their numbers.
 enum KindAt {
@@ -82,6 +84,13 @@ fn low(n: usize) -> u8
     (n % 256) as u8
 }
 
+// The number of four bytes, the highest first.
+fn four(a: u8, b: u8, c: u8, d: u8) -> usize
+    ensures { λ r. ⌜ r ≡ ((a * 256 + b) * 256 + c) * 256 + d ⌝ }
+{
+    (((a as usize) * 256 + (b as usize)) * 256 + (c as usize)) * 256 + (d as usize)
+}
+
 // The record in the lent bytes, its store aside; whether its length is in range, the receiver's own calls test.
 fn load(lent: &[u8]) -> Loaded
     ensures { λ r. ⌜ paperLoaded r (storeIn (now (lent .entry))) ≡ fieldsIn (now (lent .entry)) ⌝ }
@@ -96,10 +105,16 @@ fn load(lent: &[u8]) -> Loaded
         return Loaded::BadRecord;
     };
     let len = joined(lent[2], lent[3]);
-    Loaded::Held(Receiver { kind, mode, len })
+    let noise = four(lent[4], lent[5], lent[6], lent[7]);
+    Loaded::Held(Receiver {
+        kind,
+        mode,
+        len,
+        noise,
+    })
 }
 
-// Puts a record's mode and length into the lent bytes; a call leaves the kind as it is.
+// Puts a record's mode and length into the lent bytes.
 fn put_place(lent: &mut [u8], r: Receiver)
     requires { ⌜ 4 ≤ length (now lent) ⌝ }
     ensures { λ _. ⌜ now (lent .exit) ≡ overlay (now (lent .entry)) 1 (numberOfMode (r .mode) ∷ r .len / 256 % 256 ∷ r .len % 256 ∷ []) ⌝ }
@@ -111,13 +126,46 @@ fn put_place(lent: &mut [u8], r: Receiver)
     lent[3] = low(len);
 }
 
-// Puts a record, its store aside, into the lent bytes.
+// Puts a count of noise bytes into the lent bytes.
+fn put_noise(lent: &mut [u8], n: usize)
+    requires { ⌜ 8 ≤ length (now lent) ⌝ }
+    ensures { λ _. ⌜ now (lent .exit) ≡ overlay (now (lent .entry)) 4 (countBytes n) ⌝ }
+{
+    lent[4] = low(n / 16777216);
+    lent[5] = low(n / 65536);
+    lent[6] = low(n / 256);
+    lent[7] = low(n);
+}
+
+// The same where a count stands already. Most calls leave it as it is, and then store nothing that the next one would wait for.
+fn renew_noise(lent: &mut [u8], before: usize, n: usize)
+    requires { ⌜ (8 ≤ length (now lent)) × (before ≡ countIn (now lent)) ⌝ }
+    ensures { λ _. ⌜ now (lent .exit) ≡ overlay (now (lent .entry)) 4 (countBytes n) ⌝ }
+{
+    if n != before {
+        put_noise(lent, n);
+    }
+}
+
+// Puts a record, its store aside, into the lent bytes, which have the count of before; a call leaves the kind as it is.
+fn put_after(lent: &mut [u8], before: usize, r: Receiver)
+    requires { ⌜ (8 ≤ length (now lent)) × (before ≡ countIn (now lent)) ⌝ }
+    ensures { λ _. ⌜ now (lent .exit) ≡ overlay (now (lent .entry)) 1 (numberOfMode (r .mode) ∷ r .len / 256 % 256 ∷ r .len % 256 ∷ countBytes (r .noise)) ⌝ }
+{
+    let noise = r.noise;
+    renew_noise(lent, before, noise);
+    put_place(lent, r);
+}
+
+// Puts a record, its store aside, into any lent bytes.
 fn put_head(lent: &mut [u8], r: Receiver)
-    requires { ⌜ 4 ≤ length (now lent) ⌝ }
-    ensures { λ _. ⌜ now (lent .exit) ≡ overlay (now (lent .entry)) 0 (headOf (r .kind) (r .mode) (r .len)) ⌝ }
+    requires { ⌜ 8 ≤ length (now lent) ⌝ }
+    ensures { λ _. ⌜ now (lent .exit) ≡ overlay (now (lent .entry)) 0 (headOf (r .kind) (r .mode) (r .len) (r .noise)) ⌝ }
 {
     let kind = r.kind;
+    let noise = r.noise;
     lent[0] = kind_number(kind);
+    put_noise(lent, noise);
     put_place(lent, r);
 }
 
@@ -146,6 +194,21 @@ fn of_answer(answer: Answer, taken: usize) -> MfcFed
     }
 }
 
+fn of_noise(noise: NoiseCount) -> MfcNoise
+    ensures { λ w. ⌜ w ≡ noiseTold (paperNoise noise) ⌝ }
+{
+    match noise {
+        NoiseCount::Count(n) => MfcNoise {
+            refusal: 0,
+            count: n,
+        },
+        NoiseCount::Refused(why) => MfcNoise {
+            refusal: refusal::number(why),
+            count: 0,
+        },
+    }
+}
+
 fn refusal_in(answer: Answer) -> u8
     ensures { λ n. ⌜ n ≡ refusalIn (paperAnswer answer) ⌝ }
 {
@@ -168,7 +231,7 @@ pub extern "C" fn mfc_receiver_fresh(kind: u8, record: &mut [u8]) -> u8
     let KindAt::Known(known) = kind_at(kind) else {
         return refusal::number(Refusal::OutOfRange);
     };
-    match receiver::fresh(known, &mut record[4..RECORD_SIZE]) {
+    match receiver::fresh(known, &mut record[8..RECORD_SIZE]) {
         Made::Fresh(r) => {
             put_head(record, r);
             0
@@ -190,12 +253,14 @@ pub extern "C" fn mfc_feed(record: &mut [u8], piece: &[u8], frame: &mut [u8]) ->
     let Loaded::Held(r) = load(record) else {
         return of_answer(Answer::Refused(Refusal::BadRecord), 0);
     };
-    let f = receiver::feed(r, &mut record[4..RECORD_SIZE], piece, frame);
+    let before = r.noise;
+    let f = receiver::feed(r, &mut record[8..RECORD_SIZE], piece, frame);
     let next = f.receiver;
     let taken = f.taken;
     let answer = f.answer;
-    put_place(record, next);
-    of_answer(answer, taken)
+    let told = of_answer(answer, taken);
+    put_after(record, before, next);
+    told
 }
 
 // Tells the receiver whose record is lent of silence over 200 ms: what was begun is cut off, and bytes are noise until the next 7E.
@@ -208,9 +273,23 @@ pub extern "C" fn mfc_silence(record: &mut [u8]) -> u8
     let Loaded::Held(r) = load(record) else {
         return refusal::number(Refusal::BadRecord);
     };
-    let q = receiver::silence(r, &record[4..RECORD_SIZE]);
+    let before = r.noise;
+    let q = receiver::silence(r, &record[8..RECORD_SIZE]);
     let next = q.receiver;
     let answer = q.answer;
-    put_place(record, next);
+    put_after(record, before, next);
     refusal_in(answer)
+}
+
+// The count of bytes that the receiver whose record is lent has thrown away as noise: those before the first 7E, and those after silence
+// up to the next 7E. A 7E is no noise, nor are the bytes of a stretch that is refused or cut off. Refusal 2 where size is under
+// MFC_RECORD_SIZE or a field of the record is out of its range.
+#[no_mangle]
+pub extern "C" fn mfc_receiver_noise(record: &[u8]) -> MfcNoise
+    ensures { λ r. ⌜ r ≡ noiseRecord (now («record» .entry)) ⌝ }
+{
+    let Loaded::Held(r) = load(record) else {
+        return of_noise(NoiseCount::Refused(Refusal::BadRecord));
+    };
+    of_noise(receiver::noise(r, &record[8..RECORD_SIZE]))
 }

@@ -6,7 +6,7 @@ use log::reader::REQUEST_SIDE;
 use log::reader::SILENCE_MARK;
 
 // The bytes of a receiver's record.
-pub const RECORD_SIZE: usize = 264;
+pub const RECORD_SIZE: usize = 268;
 
 // The bytes that mfc_feed needs for a frame's body.
 pub const FRAME_ROOM: usize = 260;

@@ -4,7 +4,7 @@ use native.Mathlib.Omega.{arith}
 use mathlib.Core.Path.{_≡_, refl, sym, ap, _∙_}
 use mathlib.Core.Bool.{Bool, true, false, cond, not, _&&_, false≢true}
 use mathlib.Core.List.{List, [], _∷_}
-use borrow.Author.Tests.{lt-ltb, le-ltb, eqb-true}
+use borrow.Author.Tests.{ltb-true, lt-ltb, le-ltb, eqb-true}
 use lib.Dec.{ltb, eqb}
 use lib.ListN.{length, getD}
 use Rattle.refusal.specs.Refusals.{Numbered, number, served, refused}
@@ -14,8 +14,8 @@ use Rattle.receiver.specs.declared.Receiver.{Receiver}
 use Rattle.receiver.specs.declared.Fed.{Fed}
 use Rattle.receiver.specs.declared.Scanned.{Scanned}
 use Rattle.receiver.specs.declared.Quiet.{Quiet}
-use Rattle.receiver.specs.Record.{Record, held, outsideOf, lengthInRange, inRange, Act, Store, Become, actOf, pushed, acted, opened, silenced, pending, itemOf, nextByte}
-use Rattle.receiver.specs.Calls.{Said, nothing, gave, Outcome, saidOf, bufferOf, Scan, scannedAs, paperFed, paperQuiet, refusedCall, completed, unfinished, closes, scanFrom, fedBy, feedOf, silenceOf}
+use Rattle.receiver.specs.Record.{Record, held, outsideOf, lengthInRange, inRange, Act, Store, Become, Discard, actOf, pushed, acted, opened, silenced, pending, itemOf, nextByte}
+use Rattle.receiver.specs.Calls.{Said, nothing, gave, Outcome, saidOf, bufferOf, Scan, scannedAs, paperFed, paperQuiet, refusedCall, completed, unfinished, closes, scanFrom, fedBy, feedOf, silenceOf, noiseOf}
 
 -- a test of the code that is negated
 pub not-true : (t : Bool) → not t ≡ true → t ≡ false
@@ -30,9 +30,19 @@ not-false false h = sym h
 pub range-size : (r : Record) → inRange r ≡ true → length (r .store) ≡ 260
 range-size r h = go (eqb (length (r .store)) 260) refl h
   where
-    go : (t : Bool) → eqb (length (r .store)) 260 ≡ t → (t && lengthInRange (r .mode) (r .len)) ≡ true → length (r .store) ≡ 260
+    go : (t : Bool) → eqb (length (r .store)) 260 ≡ t → (t && (ltb (r .noise) 4294967296 && lengthInRange (r .mode) (r .len))) ≡ true
+        → length (r .store) ≡ 260
     go true e g = eqb-true _ _ e
     go false e g = absurd (false≢true g)
+
+-- and so few noise bytes
+pub range-few : (r : Record) → inRange r ≡ true → r .noise < 4294967296
+range-few r h = go (eqb (length (r .store)) 260) (ltb (r .noise) 4294967296) refl h
+  where
+    go : (t u : Bool) → ltb (r .noise) 4294967296 ≡ u → (t && (u && lengthInRange (r .mode) (r .len))) ≡ true → r .noise < 4294967296
+    go true true f g = ltb-true _ _ f
+    go true false f g = absurd (false≢true g)
+    go false u f g = absurd (false≢true g)
 
 -- a feeding call
 module _ (r : Record) (piece buffer : List ℕ) where
@@ -61,7 +71,7 @@ abbrev pub quiet : Record → Said → Outcome
 quiet r said = record { leaves = silenced r; result = record { said = said; taken = 0; buffer = [] } }
 
 -- the same from the struct that the code makes
-pub quiet-left : (x : Receiver) (r : Record) (said : Said) → x ≡ outsideOf (r .kind)
+pub quiet-left : (x : Receiver) (r : Record) (said : Said) → x ≡ outsideOf (r .kind) (r .noise)
     → _≡_ {A = Outcome} (record { leaves = held x (r .store); result = record { said = said; taken = 0; buffer = [] } }) (quiet r said)
 quiet-left x r said e = ap (λ (y : Receiver). record { leaves = held y (r .store); result = record { said = said; taken = 0; buffer = [] } }) e
 
@@ -79,6 +89,14 @@ module _ (r : Record) where
 
   pub silence-idle : inRange r ≡ true → pending r ≡ false → silenceOf r ≡ quiet r nothing
   silence-idle h p = silence-said h ∙ rw p
+
+  pub noise-range : inRange r ≡ false → noiseOf r ≡ refused (number 2)
+  unfolding noiseOf
+  noise-range h = rw h
+
+  pub noise-told : inRange r ≡ true → noiseOf r ≡ served (r .noise)
+  unfolding noiseOf
+  noise-told h = rw h
 
 abbrev shown : Record → ℕ → List ℕ → Item → Outcome
 shown r taken buffer item = record { leaves = opened r; result = record { said = saidOf item; taken = taken; buffer = bufferOf item buffer } }
@@ -142,6 +160,7 @@ kind-acted r (Store b) = go (ltb (r .len) 260)
     go true = refl
     go false = refl
 kind-acted r (Become m) = refl
+kind-acted r Discard = refl
 
 kind-next : (r : Record) (b : ℕ) → nextByte r b .kind ≡ r .kind
 unfolding nextByte
@@ -164,7 +183,28 @@ kind-silence : (r : Record) → silenceOf r .leaves .kind ≡ r .kind
 unfolding silenceOf
 kind-silence r = by-test (λ (o : Outcome). o .leaves .kind ≡ r .kind) (inRange r) refl refl
 
--- the same, as a caller has it from the contracts
+-- the noise count stays within its range
+pub few-acted : (r : Record) (a : Act) → r .noise < 4294967296 → acted r a .noise < 4294967296
+unfolding acted
+few-acted r (Store b) h = go (ltb (r .len) 260)
+  where
+    go : (t : Bool) → pushed t r b .noise < 4294967296
+    go true = h
+    go false = h
+few-acted r (Become m) h = h
+few-acted r Discard h = omega arith
+
+few-next : (r : Record) (b : ℕ) → r .noise < 4294967296 → nextByte r b .noise < 4294967296
+unfolding nextByte
+few-next r b h = by-test (λ (x : Record). x .noise < 4294967296) (eqb b 0x7E) h (few-acted r (actOf (r .mode) b) h)
+
+pub few-scan : (piece : List ℕ) (n : ℕ) (r : Record) → r .noise < 4294967296 → scanFrom n r piece .before .noise < 4294967296
+unfolding scanFrom
+few-scan [] n r h = h
+few-scan (b ∷ piece) n r h =
+    by-test (λ (s : Scan). s .before .noise < 4294967296) (closes r b) h (few-scan piece (n + 1) (nextByte r b) (few-next r b h))
+
+-- the kind, as a caller has it from the contracts
 pub kind-fed : (f : Fed) (store after : List ℕ) (r : Record) (piece buffer : List ℕ) → paperFed f store after ≡ feedOf r piece buffer
     → f .receiver .kind ≡ r .kind
 kind-fed f store after r piece buffer e = ap (λ (x : Outcome). x .leaves .kind) e ∙ kind-feed r piece buffer

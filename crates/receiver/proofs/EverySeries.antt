@@ -22,6 +22,7 @@ use Rattle.receiver.specs.Record.{Record, fresh, opened, pending, itemIn
 use Rattle.receiver.specs.Calls.{Said, nothing, gave, Result, Outcome, saidOf, bufferOf, completed, unfinished, closes, Scan, scanFrom, feedOf}
 use Rattle.receiver.specs.Series.{Call, feeding, silence, upTo, added, streamFrom, streamOf, gained, giving, expected, expectedFrom, outcome, results, recordAfter, reported, reports, NoneRefused2, HandsIn, Demand3}
 use Rattle.receiver.proofs.Cases.{feed-room, feed-scan, silence-said, quiet}
+use Rattle.receiver.proofs.NoiseOfStream.{noise-stream}
 use Rattle.receiver.proofs.Simulation.{At, at-next, at-gain, at-range, at-fresh}
 
 abbrev placeOf : List Event → Place
@@ -489,6 +490,7 @@ demand3 kind =
       never-2 = λ calls. none-2 (results (fresh kind) calls) (all-sayable kind calls);
       all-items = λ calls. let g = from-fresh kind calls in rw (g .gives) (g .all-items);
       end-record = end kind;
+      noise-count = λ calls. ap (λ (r : Record). r .noise) (end kind calls) ∙ noise-stream kind (streamOf kind calls);
       one-record = λ calls others same. end kind calls ∙ ap (recordOf kind) same ∙ sym (end kind others);
       in-ranges = λ stream. at-range kind (placeOf stream) (recordOf kind stream) (at-stream kind stream);
       every-cut = λ stream calls h. whole kind calls [] stream (fresh kind) (fresh-is kind) h;

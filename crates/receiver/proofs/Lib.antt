@@ -5,6 +5,7 @@ pub mod Turns
 pub mod Cases
 pub mod Place
 pub mod Simulation
+pub mod NoiseOfStream
 pub mod EverySeries
 pub mod Reached
 pub mod OneToOne

@@ -9,7 +9,7 @@ use lib.Dec.{eqb}
 use Rattle.shdlc.specs.Stuffing.{escapes, leftOf, isControl}
 use Rattle.receiver.specs.declared.Mode.{Mode}
 use Rattle.receiver.specs.declared.Mode.the-variants.{Outside, Plain, Escaped, BadEscape, BareControl}
-use Rattle.receiver.specs.Record.{numberOfMode, modeOf, Store, Become, actOf, pendingIn}
+use Rattle.receiver.specs.Record.{numberOfMode, modeOf, Store, Become, Discard, actOf, pendingIn}
 
 -- a mode's number and back
 pub mode-back : (mode : Mode) → modeOf (numberOfMode mode) ≡ mode
@@ -50,10 +50,12 @@ module _ (m b : ℕ) where
       → actOf (modeOf m) b ≡ Become BadEscape
   act-bad t h e is = rw (h, e, is)
 
-  pub act-none : (m ≡ 1 → ⊥) → (m ≡ 2 → ⊥) → actOf (modeOf m) b ≡ Become (modeOf m)
-  act-none p e = rw (ne-eqb m 1 p, ne-eqb m 2 e) (go (eqb m 0) (eqb m 3))
+  pub act-noise : m ≡ 0 → actOf (modeOf m) b ≡ Discard
+  act-noise h = rw h
+
+  pub act-none : (m ≡ 1 → ⊥) → (m ≡ 2 → ⊥) → (m ≡ 0 → ⊥) → actOf (modeOf m) b ≡ Become (modeOf m)
+  act-none p e o = rw (ne-eqb m 0 o, ne-eqb m 1 p, ne-eqb m 2 e) (go (eqb m 3))
     where
-      go : (t u : Bool) → actOf (cond t Outside (cond u BadEscape BareControl)) b ≡ Become (cond t Outside (cond u BadEscape BareControl))
-      go true u = refl
-      go false true = refl
-      go false false = refl
+      go : (u : Bool) → actOf (cond u BadEscape BareControl) b ≡ Become (cond u BadEscape BareControl)
+      go true = refl
+      go false = refl

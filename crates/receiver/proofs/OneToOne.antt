@@ -18,7 +18,7 @@ use Rattle.receiver.specs.Record.{held}
 use Rattle.receiver.specs.Calls.{nothing, gave, Outcome, paperAnswer, paperFed, paperQuiet, paperMade}
 
 pub held-one-to-one : (r s : Receiver) (store other : List ℕ) → held r store ≡ held s other → r ≡ s
-held-one-to-one r s store other e = λ i. record { kind = e i .kind; mode = e i .mode; len = e i .len }
+held-one-to-one r s store other e = λ i. record { kind = e i .kind; mode = e i .mode; len = e i .len; noise = e i .noise }
 
 nothing-not-gave : (a : Answered ℕ) → nothing ≡ gave a → ⊥
 nothing-not-gave a e = let z : _≡_ {A = ℕ} 0 1 = cc in omega arith

@@ -14,7 +14,7 @@ use Rattle.shdlc.specs.Stuffing.{stuffByte, stuff, reportedPlace}
 use Rattle.shdlc.proofs.Stuffing.{stuff-append, stuff-one, stuff-short, stuff-long}
 use Rattle.receiver.specs.declared.Mode.{Mode}
 use Rattle.receiver.specs.declared.Mode.the-variants.{Outside, Plain, Escaped, BadEscape, BareControl}
-use Rattle.receiver.specs.Record.{modeOf, Act, Store, Become, unescape, actOf, placeIn}
+use Rattle.receiver.specs.Record.{modeOf, Act, Store, Become, Discard, unescape, actOf, placeIn}
 
 -- how many bytes the part of a body past 260 was sent as
 abbrev pub beyond : List ℕ → ℕ
@@ -70,6 +70,7 @@ cameAs BareControl = 1
 abbrev pub Sent : Mode → Act → Type 0
 Sent m (Store b) = length (stuffByte b) ≡ cameAs m
 Sent m (Become n) = Unit {0}
+Sent m Discard = Unit {0}
 
 pub sent-plain : (x y z w : Bool) (b : ℕ) → eqb b 0x7E ≡ x → eqb b 0x7D ≡ y → eqb b 0x11 ≡ z → eqb b 0x13 ≡ w → x ≡ false
     → Sent Plain (cond y (Become Escaped) (cond (z || w) (Become BareControl) (Store b)))

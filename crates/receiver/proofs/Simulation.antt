@@ -20,8 +20,8 @@ use Rattle.shdlc.specs.Stream as Stream
 use Rattle.shdlc.proofs.Body.{body-long}
 use Rattle.receiver.specs.declared.Mode.{Mode}
 use Rattle.receiver.specs.declared.Mode.the-variants.{Outside, Plain, Escaped, BadEscape, BareControl}
-use Rattle.receiver.specs.Record.{Record, lengthInRange, inRange, fresh, Act, Store, Become, unescape, actOf, pushed, acted, opened, pendingIn, pending, placeIn, itemIn, itemOf, nextByte, nextRecord}
-use Rattle.receiver.proofs.Cases.{kind-acted}
+use Rattle.receiver.specs.Record.{Record, lengthInRange, inRange, fresh, Act, Store, Become, Discard, unescape, actOf, pushed, acted, opened, pendingIn, pending, placeIn, itemIn, itemOf, nextByte, nextRecord}
+use Rattle.receiver.proofs.Cases.{kind-acted, few-acted}
 use Rattle.receiver.proofs.Place.{beyond, lengthFor, beyond-none, beyond-some, beyond-more, stuffed-more, same-place, cameAs, Sent, act-sent}
 
 -- a stretch read so far: the mode, the whole unstuffed body, of any length, and the bytes that it came as
@@ -33,6 +33,7 @@ pub record Progress : Type 0 where
 abbrev absorbed : Progress → Act → Progress
 absorbed p (Store b) = record { mode = Plain; body = p .body ++ (b ∷ []); came = p .came + cameAs (p .mode) }
 absorbed p (Become m) = record { mode = m; body = p .body; came = p .came }
+absorbed p Discard = p
 
 absorb : Progress → ℕ → Progress
 absorb p b = absorbed p (actOf (p .mode) b)
@@ -127,7 +128,7 @@ unfolding rest
 finish-start s = finish-progress s start ∙ after-nothing (unstuff s)
 
 -- a stretch is inside, and once it has a byte it stays pending
-abbrev Inside : Mode → Type 0
+abbrev pub Inside : Mode → Type 0
 Inside Outside = ⊥
 Inside Plain = Unit {0}
 Inside Escaped = Unit {0}
@@ -170,7 +171,7 @@ waits-cons : (b : ℕ) (s : List ℕ) → Waits (progress start (b ∷ s))
 unfolding progress
 waits-cons b s = waits-on s (absorb start b) (waits-byte Plain [] 0 b tt)
 
-inside-mode : (s : List ℕ) → Inside (progress start s .mode)
+pub inside-mode : (s : List ℕ) → Inside (progress start s .mode)
 unfolding progress
 inside-mode [] = tt
 inside-mode (b ∷ s) = waits-cons b s .0
@@ -239,6 +240,7 @@ holds-acted : (p : Progress) (r : Record) (a : Act) → Sent (p .mode) a → Hol
 unfolding acted
 holds-acted p r (Store b) sent h = holds-pushed (ltb (r .len) 260) p r b refl sent h
 holds-acted p r (Become m) sent h = record { mode = refl; len = h .len; size = h .size; kept = h .kept; came = h .came }
+holds-acted p r Discard sent h = record { mode = h .mode; len = h .len; size = h .size; kept = h .kept; came = h .came }
 
 holds-absorb : (p : Progress) (r : Record) (b : ℕ) → eqb b 0x7E ≡ false → Holds p r → Holds (absorb p b) (acted r (actOf (r .mode) b))
 unfolding absorb
@@ -306,8 +308,8 @@ holds-item p r h = ap (λ (m : Mode). itemIn m (r .kind) (r .len) (r .store)) (h
 
 -- a record stands at a place of the stream
 abbrev pub At : Kind → Place → Record → Type 0
-At kind outside r = (r .kind ≡ kind) × (length (r .store) ≡ 260) × (r .mode ≡ Outside) × (r .len ≡ 0)
-At kind (inside s) r = (r .kind ≡ kind) × Holds (progress start s) r
+At kind outside r = (r .kind ≡ kind) × (length (r .store) ≡ 260) × (r .mode ≡ Outside) × (r .len ≡ 0) × (r .noise < 4294967296)
+At kind (inside s) r = (r .kind ≡ kind) × Holds (progress start s) r × (r .noise < 4294967296)
 
 at-kind : (kind : Kind) (place : Place) (r : Record) → At kind place r → r .kind ≡ kind
 at-kind kind outside r h = h .0
@@ -316,6 +318,10 @@ at-kind kind (inside s) r h = h .0
 at-size : (kind : Kind) (place : Place) (r : Record) → At kind place r → length (r .store) ≡ 260
 at-size kind outside r h = h .1
 at-size kind (inside s) r h = h .1 .size
+
+at-few : (kind : Kind) (place : Place) (r : Record) → At kind place r → r .noise < 4294967296
+at-few kind outside r h = h .4
+at-few kind (inside s) r h = h .2
 
 length-inside : (m : Mode) (n : ℕ) → Inside m → n ≤ 65535 → lengthInRange m n ≡ true
 length-inside Outside n h l = absurd h
@@ -336,22 +342,23 @@ both false u h g = h
 
 pub at-range : (kind : Kind) (place : Place) (r : Record) → At kind place r → inRange r ≡ true
 at-range kind place r h =
-    both (eqb (length (r .store)) 260) (lengthInRange (r .mode) (r .len)) (eq-eqb (length (r .store)) 260 (at-size kind place r h))
-    (length-at kind place r h)
+    both (eqb (length (r .store)) 260) (ltb (r .noise) 4294967296 && lengthInRange (r .mode) (r .len))
+    (eq-eqb (length (r .store)) 260 (at-size kind place r h))
+    (both (ltb (r .noise) 4294967296) (lengthInRange (r .mode) (r .len)) (lt-ltb (r .noise) 4294967296 (at-few kind place r h)) (length-at kind place r h))
 
 at-byte : (t : Bool) (kind : Kind) (place : Place) (r : Record) (b : ℕ) → eqb b 0x7E ≡ t → At kind place r
     → At kind (Stream.nextByte t b place) (cond t (opened r) (acted r (actOf (r .mode) b)))
 unfolding Stream.nextByte acted progress
-at-byte true kind place r b e h = (at-kind kind place r h, holds-opened r (at-size kind place r h))
+at-byte true kind place r b e h = (at-kind kind place r h, holds-opened r (at-size kind place r h), at-few kind place r h)
 at-byte false kind outside r b e h =
-    subst (λ (m : Mode). At kind outside (acted r (actOf m b))) (sym (h .2)) (h .0, h .1, refl, h .3)
+    subst (λ (m : Mode). At kind outside (acted r (actOf m b))) (sym (h .2)) (h .0, h .1, h .2, h .3, few-acted r Discard (h .4))
 at-byte false kind (inside s) r b e h =
-    (kind-acted r (actOf (r .mode) b) ∙ h .0, rw progress-snoc (holds-absorb (progress start s) r b e (h .1)))
+    (kind-acted r (actOf (r .mode) b) ∙ h .0, rw progress-snoc (holds-absorb (progress start s) r b e (h .1)), few-acted r (actOf (r .mode) b) (h .2))
 
 pub at-next : (kind : Kind) (place : Place) (r : Record) (event : Event) → At kind place r → At kind (next place event) (nextRecord r event)
 unfolding next nextRecord nextByte
 at-next kind place r (byte b) h = at-byte (eqb b 0x7E) kind place r b refl h
-at-next kind place r mark h = (at-kind kind place r h, at-size kind place r h, refl, refl)
+at-next kind place r mark h = (at-kind kind place r h, at-size kind place r h, refl, refl, at-few kind place r h)
 
 -- what an event gains, as the record shows it
 abbrev pub gains : Record → Event → List Item
@@ -380,4 +387,4 @@ at-gain kind (inside (x ∷ s)) r (byte b) h = rw (holds-pending (progress start
 at-gain kind (inside (x ∷ s)) r mark h = rw (holds-pending (progress start (x ∷ s)) r (h .1) ∙ waits-cons x s .1)
 
 pub at-fresh : (kind : Kind) → At kind outside (fresh kind)
-at-fresh kind = (refl, refl, refl, refl)
+at-fresh kind = (refl, refl, refl, refl, omega arith)

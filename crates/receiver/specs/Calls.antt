@@ -1,6 +1,6 @@
--- What each call gives for every record, piece and lent buffer. To be believed are the words of an answer, `freshOf`, and that `feedOf`
--- and `silenceOf` give refusal 2, with all as it was, exactly for a record that is not in range. The rest is the model of the code: demand 3
--- (Series.antt) ties it to the stream.
+-- What each call gives for every record, piece and lent buffer. To be believed are the words of an answer, `freshOf`, `noiseOf`, and that
+-- `feedOf` and `silenceOf` give refusal 2, with all as it was, exactly for a record that is not in range. The rest is the model of the code:
+-- demand 3 (Series.antt) ties it to the stream.
 use Prim.Native.Nat.{ℕ, _+_}
 use mathlib.Core.Bool.{Bool, true, false, cond, _&&_}
 use mathlib.Core.List.{List, [], _∷_}
@@ -17,6 +17,8 @@ use Rattle.receiver.specs.declared.Made.the-variants as made
 use Rattle.receiver.specs.declared.Fed.{Fed}
 use Rattle.receiver.specs.declared.Scanned.{Scanned}
 use Rattle.receiver.specs.declared.Quiet.{Quiet}
+use Rattle.receiver.specs.declared.NoiseCount.{NoiseCount}
+use Rattle.receiver.specs.declared.NoiseCount.the-variants as counted
 use Rattle.receiver.specs.Record.{Record, held, inRange, fresh, opened, silenced, pending, itemOf, nextByte}
 
 -- what a call says: nothing yet, or an item, a frame by the length of its body
@@ -52,6 +54,10 @@ paperQuiet q store = record { leaves = held (q .receiver) store; result = record
 abbrev pub paperMade : Made → List ℕ → Answered Record
 paperMade (made.Fresh r) store = served (held r (take 260 store))
 paperMade (made.Refused r) store = refused (paper r)
+
+abbrev pub paperNoise : NoiseCount → Answered ℕ
+paperNoise (counted.Count n) = served n
+paperNoise (counted.Refused r) = refused (paper r)
 
 -- refusal 1 under 260 bytes; else the fresh record, and the lent store with its zeros at the start and all else as it was
 unfoldable pub freshOf : Kind → List ℕ → Answered Record × List ℕ
@@ -112,3 +118,7 @@ silenceOf r =
     cond (inRange r)
     (record { leaves = silenced r; result = record { said = cond (pending r) (gave (refused (number 9))) nothing; taken = 0; buffer = [] } })
     (refusedCall 2 r [])
+
+-- asking for the noise count, which changes nothing
+unfoldable pub noiseOf : Record → Answered ℕ
+noiseOf r = cond (inRange r) (served (r .noise)) (refused (number 2))

@@ -1,7 +1,7 @@
 -- The receiver's record: its ranges, the fresh record of each kind, and what a byte or a silence mark does to it (docs/RECORD.md).
 -- To be believed are the record, its ranges and the fresh record, up to `fresh`. What follows is the model of the code: demand 3
 -- (Series.antt) says what comes of it for every series of calls, and every record within the ranges is left by some stream (`reached`).
-use Prim.Native.Nat.{ℕ, _+_, _-_}
+use Prim.Native.Nat.{ℕ, _+_, _-_, min}
 use mathlib.Core.Bool.{Bool, true, false, cond, _&&_}
 use mathlib.Core.List.{List, [], _∷_}
 use mathlib.Core.Option.{Option, none, some}
@@ -16,15 +16,16 @@ use Rattle.receiver.specs.declared.Mode.{Mode}
 use Rattle.receiver.specs.declared.Mode.the-variants.{Outside, Plain, Escaped, BadEscape, BareControl}
 use Rattle.receiver.specs.declared.Receiver.{Receiver}
 
--- the whole record: the struct's three fields, and the store that is lent beside it
+-- the whole record: the struct's four fields, and the store that is lent beside it
 pub record Record : Type 0 where
   pub kind : Kind
   pub mode : Mode
   pub len : ℕ
+  pub noise : ℕ
   pub store : List ℕ
 
 abbrev pub held : Receiver → List ℕ → Record
-held r store = record { kind = r .kind; mode = r .mode; len = r .len; store = store }
+held r store = record { kind = r .kind; mode = r .mode; len = r .len; noise = r .noise; store = store }
 
 -- the modes by number: 0 outside, 1 plain, 2 escaped, 3 and 4 the refusal found
 abbrev pub numberOfMode : Mode → ℕ
@@ -47,20 +48,25 @@ lengthInRange Escaped n = ltb n 65536
 lengthInRange BadEscape n = ltb n 65536
 lengthInRange BareControl n = ltb n 65536
 
+-- 02 (viii): "a count of bytes thrown away as noise, stopping at 4,294,967,295"
+abbrev pub limited : ℕ → ℕ
+limited n = min n 4294967295
+
 abbrev pub inRange : Record → Bool
-inRange r = eqb (length (r .store)) 260 && lengthInRange (r .mode) (r .len)
+inRange r = eqb (length (r .store)) 260 && (ltb (r .noise) 4294967296 && lengthInRange (r .mode) (r .len))
 
 -- before the first 7E, and after a mark
-abbrev pub outsideOf : Kind → Receiver
-outsideOf kind = record { kind = kind; mode = Outside; len = 0 }
+abbrev pub outsideOf : Kind → ℕ → Receiver
+outsideOf kind noise = record { kind = kind; mode = Outside; len = 0; noise = noise }
 
 abbrev pub fresh : Kind → Record
-fresh kind = held (outsideOf kind) (replicate 260 0)
+fresh kind = held (outsideOf kind 0) (replicate 260 0)
 
--- what a byte inside a stretch does: it is a byte of the body, or it changes the mode
+-- what a byte does: it is a byte of the body, or changes the mode, or is noise
 pub data Act : Type 0 where
   Store : ℕ → Act
   Become : Mode → Act
+  Discard : Act
 
 -- what a byte after a 7D does
 abbrev pub unescape : Option ℕ → Act
@@ -69,7 +75,7 @@ unescape (some b) = Store b
 
 -- what a byte other than 7E does; once a fault is found the rest of the stretch is passed over
 abbrev pub actOf : Mode → ℕ → Act
-actOf Outside b = Become Outside
+actOf Outside b = Discard
 actOf Plain b = cond (eqb b 0x7D) (Become Escaped) (cond (isControl b) (Become BareControl) (Store b))
 actOf Escaped b = unescape (leftOf escapes b)
 actOf BadEscape b = Become BadEscape
@@ -77,20 +83,21 @@ actOf BareControl b = Become BareControl
 
 -- a byte of the body, kept where there is room for it; else the bytes that it was sent as are counted
 abbrev pub pushed : Bool → Record → ℕ → Record
-pushed true r b = record { kind = r .kind; mode = Plain; len = r .len + 1; store = set (r .store) (r .len) b }
-pushed false r b = record { kind = r .kind; mode = Plain; len = reportedPlace (r .len + length (stuffByte b)); store = r .store }
+pushed true r b = record { kind = r .kind; mode = Plain; len = r .len + 1; noise = r .noise; store = set (r .store) (r .len) b }
+pushed false r b = record { kind = r .kind; mode = Plain; len = reportedPlace (r .len + length (stuffByte b)); noise = r .noise; store = r .store }
 
 unfoldable pub acted : Record → Act → Record
 acted r (Store b) = pushed (ltb (r .len) 260) r b
-acted r (Become m) = record { kind = r .kind; mode = m; len = r .len; store = r .store }
+acted r (Become m) = record { kind = r .kind; mode = m; len = r .len; noise = r .noise; store = r .store }
+acted r Discard = record { kind = r .kind; mode = r .mode; len = r .len; noise = limited (r .noise + 1); store = r .store }
 
 -- a 7E opens an empty stretch
 abbrev pub opened : Record → Record
-opened r = record { kind = r .kind; mode = Plain; len = 0; store = r .store }
+opened r = record { kind = r .kind; mode = Plain; len = 0; noise = r .noise; store = r .store }
 
 -- after a mark bytes are noise
 abbrev pub silenced : Record → Record
-silenced r = held (outsideOf (r .kind)) (r .store)
+silenced r = held (outsideOf (r .kind) (r .noise)) (r .store)
 
 -- whether the stretch has a byte
 abbrev pub pendingIn : Mode → ℕ → Bool

@@ -8,8 +8,8 @@ use lib.Dec.{ltb, eqb}
 use lib.ListN.{length, take, drop}
 use Rattle.refusal.specs.Refusals.{Numbered, number, _carrying_, served, refused}
 use Rattle.shdlc.specs.declared.Kind.{Kind}
-use Rattle.shdlc.specs.Stream.{Event, byte, mark, Item, items}
-use Rattle.receiver.specs.Record.{Record, inRange, fresh, recordOf}
+use Rattle.shdlc.specs.Stream.{Event, byte, mark, Item, items, noise}
+use Rattle.receiver.specs.Record.{Record, inRange, fresh, limited, recordOf}
 use Rattle.receiver.specs.Calls.{Said, nothing, gave, Result, Outcome, saidOf, bufferOf, feedOf, silenceOf}
 
 -- "A series is feeding calls and silence marks": a piece with the lent frame buffer, or a mark
@@ -108,6 +108,8 @@ pub record Demand3 (kind : Kind) : Type 0 where
   pub all-items : (calls : List Call) → reports (results (fresh kind) calls) ≡ items kind (streamOf kind calls)
   -- the record at the end is a function of the stream
   pub end-record : (calls : List Call) → recordAfter (fresh kind) calls ≡ recordOf kind (streamOf kind calls)
+  -- 02 (viii), "the one end record of demand 3 now includes this count: the stream's noise bytes, or that limit if they are more"
+  pub noise-count : (calls : List Call) → recordAfter (fresh kind) calls .noise ≡ limited (noise (streamOf kind calls))
   -- two series with the same stream end in one and the same record
   pub one-record : (calls others : List Call) → streamOf kind calls ≡ streamOf kind others
       → recordAfter (fresh kind) calls ≡ recordAfter (fresh kind) others

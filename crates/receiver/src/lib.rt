@@ -4,19 +4,19 @@ use shdlc::Checked;
 use shdlc::Kind;
 ghost use mathlib.Core.Path.{_≡_};
 ghost use mathlib.Core.Bool.{false, cond, _&&_, _||_};
-ghost use mathlib.Core.List.{[], _∷_};
+ghost use mathlib.Core.List.{List, [], _∷_};
 ghost use mathlib.Core.Option.{none, some};
-ghost use Prim.Native.Nat.{ℕ, _≤_, _+_, _-_, min};
+ghost use Prim.Native.Nat.{ℕ, _≤_, _<_, _+_, _-_, min};
 ghost use lib.Bits.{bitXor};
-ghost use lib.Dec.{eqb};
-ghost use lib.ListN.{length, take, drop, replicate};
+ghost use lib.Dec.{ltb, eqb};
+ghost use lib.ListN.{length, getD, take, drop, replicate};
 ghost use Rattle.refusal.specs.Refusals.{_carrying_, paper};
 ghost use Rattle.refusal.specs.Room.{overlay};
 ghost use Rattle.shdlc.specs.declared.Kind.{Kind as FrameKind};
 ghost use Rattle.shdlc.specs.Paper.{paperChecked};
 ghost use Rattle.shdlc.specs.Stuffing.{escapes, leftOf, stuffByte, isControl};
-ghost use Rattle.receiver.specs.Record.{held, numberOfMode, modeOf, outsideOf, lengthInRange, Store, acted, pendingIn, placeIn, faultOf, itemIn};
-ghost use Rattle.receiver.specs.Calls.{paperFed, paperQuiet, paperMade, freshOf, feedOf, silenceOf, completed, scannedAs, scanFrom};
+ghost use Rattle.receiver.specs.Record.{held, numberOfMode, modeOf, outsideOf, lengthInRange, Store, limited, acted, pendingIn, placeIn, faultOf, itemIn};
+ghost use Rattle.receiver.specs.Calls.{paperFed, paperQuiet, paperMade, paperNoise, freshOf, feedOf, silenceOf, noiseOf, completed, scannedAs, scanFrom};
 
 // Where the receiver stands: before the first 7E or after silence; in a stretch; in one after a 7D; in one with the fault of
 // refusal 3 or 4 found.
@@ -33,7 +33,11 @@ pub struct Receiver {
     pub kind: Kind,
     pub mode: Mode,
     pub len: usize,
+    // The bytes thrown away as noise, at most MOST_NOISE.
+    pub noise: usize,
 }
+
+const MOST_NOISE: usize = 4_294_967_295;
 
 // What making a receiver answers.
 pub enum Made {
@@ -59,6 +63,12 @@ pub struct Fed {
 pub struct Quiet {
     pub receiver: Receiver,
     pub answer: Answer,
+}
+
+// What asking for the noise count answers.
+pub enum NoiseCount {
+    Count(u32),
+    Refused(Refusal),
 }
 
 // What scanning a piece found: the record, the bytes passed, and whether the last of them is a 7E that ends a stretch.
@@ -163,24 +173,55 @@ fn length_in_range(mode: Mode, len: usize) -> bool
 }
 
 // Whether a record with a store of a size is within its ranges.
-fn in_range(mode: Mode, len: usize, size: usize) -> bool
-    ensures { λ r. ⌜ r ≡ (eqb size 260 && lengthInRange mode len) ⌝ }
+fn in_range(mode: Mode, len: usize, noise: usize, size: usize) -> bool
+    ensures { λ r. ⌜ r ≡ (eqb size 260 && (ltb noise 4294967296 && lengthInRange mode len)) ⌝ }
 {
     if size != 260 {
+        return false;
+    }
+    if MOST_NOISE < noise {
         return false;
     }
     length_in_range(mode, len)
 }
 
 // Before the first 7E, and after silence.
-fn outside(kind: Kind) -> Receiver
-    ensures { λ r. ⌜ r ≡ outsideOf kind ⌝ }
+fn outside(kind: Kind, noise: usize) -> Receiver
+    ensures { λ r. ⌜ r ≡ outsideOf kind noise ⌝ }
 {
     Receiver {
         kind,
         mode: Mode::Outside,
         len: 0,
+        noise,
     }
+}
+
+fn lesser(a: u32, b: u32) -> u32
+    ensures { λ r. ⌜ r ≡ min a b ⌝ }
+{
+    if a < b { a } else { b }
+}
+
+// So many bytes, as a count of noise.
+fn narrow(n: usize) -> u32
+    ensures { λ r. ⌜ r ≡ limited n ⌝ }
+{
+    if MOST_NOISE < n {
+        4_294_967_295
+    } else {
+        n as u32
+    }
+}
+
+// The count of noise bytes with so many more; it stops at MOST_NOISE. It is made in 32 bits: as a usize the limit would be kept in a
+// register over the loop of `scan`, since the compiler makes another number of it behind that loop.
+fn counted(noise: usize, n: usize) -> usize
+    requires { ⌜ noise < 4294967296 ⌝ }
+    ensures { λ r. ⌜ r ≡ limited (noise + n) ⌝ }
+{
+    let before = noise as u32;
+    (before + lesser(narrow(n), 4_294_967_295 - before)) as usize
 }
 
 // Fills the store with zeros.
@@ -202,7 +243,7 @@ pub fn fresh(kind: Kind, store: &mut [u8]) -> Made
         return Made::Refused(Refusal::NoRoom);
     }
     clear(&mut store[..260]);
-    Made::Fresh(outside(kind))
+    Made::Fresh(outside(kind, 0))
 }
 
 // The bytes that the store holds of so many.
@@ -283,10 +324,12 @@ fn complete(r: Receiver, taken: usize, store: &[u8], frame: &mut [u8]) -> Fed
     let kind = r.kind;
     let mode = r.mode;
     let len = r.len;
+    let noise = r.noise;
     let next = Receiver {
         kind,
         mode: Mode::Plain,
         len: 0,
+        noise,
     };
     match judge(kind, mode, len, store) {
         Checked::Good => {
@@ -323,7 +366,7 @@ fn past(len: usize, n: usize) -> usize
 // Stores the piece's bytes up to the first special one, or as many as the store has room for, and answers how many.
 fn store_run(store: &mut [u8], len: usize, piece: &[u8]) -> usize
     requires { ⌜ (length (now store) ≡ 260) × (len ≤ 260) ⌝ }
-    ensures { λ n. ⌜ (len + n ≤ 260) × (n ≤ length (now (piece .entry))) × ((kind : FrameKind) (taken : ℕ) → scanFrom taken (record { kind = kind; mode = Mode.Plain; len = len; store = now (store .entry) }) (now (piece .entry)) ≡ scanFrom (taken + n) (record { kind = kind; mode = Mode.Plain; len = len + n; store = now (store .exit) }) (drop n (now (piece .entry)))) ⌝ }
+    ensures { λ n. ⌜ (len + n ≤ 260) × (n ≤ length (now (piece .entry))) × ((kind : FrameKind) (noise taken : ℕ) → scanFrom taken (record { kind = kind; mode = Mode.Plain; len = len; noise = noise; store = now (store .entry) }) (now (piece .entry)) ≡ scanFrom (taken + n) (record { kind = kind; mode = Mode.Plain; len = len + n; noise = noise; store = now (store .exit) }) (drop n (now (piece .entry)))) ⌝ }
 {
     let mut end = 260 - len;
     if piece.len() < end {
@@ -341,16 +384,35 @@ fn store_run(store: &mut [u8], len: usize, piece: &[u8]) -> usize
     i
 }
 
+// How many bytes of the piece are noise: outside a stretch those before the first 7E, else none.
+fn skip_noise(m: u8, piece: &[u8]) -> usize
+    ensures { λ n. ⌜ (n ≤ length (now (piece .entry))) × (m ≡ 0 → n < length (now (piece .entry)) → getD (now (piece .entry)) n 0 ≡ 0x7E) × ((kind : FrameKind) (len noise taken : ℕ) (store : List ℕ) → noise < 4294967296 → scanFrom taken (record { kind = kind; mode = modeOf m; len = len; noise = noise; store = store }) (now (piece .entry)) ≡ scanFrom (taken + n) (record { kind = kind; mode = modeOf m; len = len; noise = limited (noise + n); store = store }) (drop n (now (piece .entry)))) ⌝ }
+{
+    if m != OUTSIDE {
+        return 0;
+    }
+    let mut i: usize = 0;
+    while i < piece.len() {
+        if piece[i] == 0x7E {
+            return i;
+        }
+        i += 1;
+    }
+    i
+}
+
 // Reads a piece up to a 7E that ends a stretch with a byte, and stops before what that 7E does to the record.
 fn scan(r: Receiver, store: &mut [u8], piece: &[u8]) -> Scanned
-    requires { ⌜ length (now store) ≡ 260 ⌝ }
+    requires { ⌜ (length (now store) ≡ 260) × (r .noise < 4294967296) ⌝ }
     ensures { λ s. ⌜ scannedAs s (now (store .exit)) ≡ scanFrom 0 (held r (now (store .entry))) (now (piece .entry)) ⌝ }
 {
     let kind = r.kind;
     let mode = r.mode;
     let mut m = mode_number(mode);
     let mut len = r.len;
-    let mut i: usize = 0;
+    let before = r.noise;
+    let mut i = skip_noise(m, piece);
+    let noise = counted(before, i);
     while i < piece.len() {
         let b = piece[i];
         i += 1;
@@ -361,6 +423,7 @@ fn scan(r: Receiver, store: &mut [u8], piece: &[u8]) -> Scanned
                         kind,
                         mode: mode_of(m),
                         len,
+                        noise,
                     },
                     taken: i,
                     closed: true,
@@ -403,6 +466,7 @@ fn scan(r: Receiver, store: &mut [u8], piece: &[u8]) -> Scanned
             kind,
             mode: mode_of(m),
             len,
+            noise,
         },
         taken: i,
         closed: false,
@@ -410,14 +474,15 @@ fn scan(r: Receiver, store: &mut [u8], piece: &[u8]) -> Scanned
 }
 
 // What one byte leaves that ends no stretch.
-fn stands(kind: Kind, m: u8, len: usize) -> Scanned
-    ensures { λ s. ⌜ s ≡ record { receiver = record { kind = kind; mode = modeOf m; len = len }; taken = 1; closed = false } ⌝ }
+fn stands(kind: Kind, m: u8, len: usize, noise: usize) -> Scanned
+    ensures { λ s. ⌜ s ≡ record { receiver = record { kind = kind; mode = modeOf m; len = len; noise = noise }; taken = 1; closed = false } ⌝ }
 {
     Scanned {
         receiver: Receiver {
             kind,
             mode: mode_of(m),
             len,
+            noise,
         },
         taken: 1,
         closed: false,
@@ -426,29 +491,30 @@ fn stands(kind: Kind, m: u8, len: usize) -> Scanned
 
 // The same of a byte of the body, which came as n bytes and is kept where the store has room for it; it leaves the same in whatever mode it
 // is read.
-fn push(kind: Kind, len: usize, store: &mut [u8], v: u8, n: usize) -> Scanned
+fn push(kind: Kind, len: usize, noise: usize, store: &mut [u8], v: u8, n: usize) -> Scanned
     requires { ⌜ (length (now store) ≡ 260) × (length (stuffByte v) ≡ n) ⌝ }
     ensures { λ s. ⌜ scannedAs s (now (store .exit)) ≡ record {
-      before = acted (record { kind = kind; mode = Mode.Plain; len = len; store = now (store .entry) }) (Store v);
+      before = acted (record { kind = kind; mode = Mode.Plain; len = len; noise = noise; store = now (store .entry) }) (Store v);
       taken = 1;
       closed = false;
     } ⌝ }
 {
     if len < 260 {
         store[len] = v;
-        return stands(kind, PLAIN, len + 1);
+        return stands(kind, PLAIN, len + 1, noise);
     }
-    stands(kind, PLAIN, past(len, n))
+    stands(kind, PLAIN, past(len, n), noise)
 }
 
 // `scan` of a piece of one byte, without the loop: a driver that hands in each byte as it comes pays for that byte alone.
 fn scan_one(r: Receiver, store: &mut [u8], b: u8) -> Scanned
-    requires { ⌜ length (now store) ≡ 260 ⌝ }
+    requires { ⌜ (length (now store) ≡ 260) × (r .noise < 4294967296) ⌝ }
     ensures { λ s. ⌜ scannedAs s (now (store .exit)) ≡ scanFrom 0 (held r (now (store .entry))) (b ∷ []) ⌝ }
 {
     let kind = r.kind;
     let mode = r.mode;
     let len = r.len;
+    let noise = r.noise;
     let m = mode_number(mode);
     if b == 0x7E {
         if is_pending(m, len) {
@@ -457,29 +523,33 @@ fn scan_one(r: Receiver, store: &mut [u8], b: u8) -> Scanned
                     kind,
                     mode: mode_of(m),
                     len,
+                    noise,
                 },
                 taken: 1,
                 closed: true,
             };
         }
-        return stands(kind, PLAIN, 0);
+        return stands(kind, PLAIN, 0, noise);
     }
     if m == PLAIN {
         if b == 0x7D {
-            return stands(kind, ESCAPED, len);
+            return stands(kind, ESCAPED, len, noise);
         }
         if is_control(b) {
-            return stands(kind, BARE_CONTROL, len);
+            return stands(kind, BARE_CONTROL, len, noise);
         }
-        return push(kind, len, store, b, 1);
+        return push(kind, len, noise, store, b, 1);
     }
     if m == ESCAPED {
         if is_escaped(b) {
-            return push(kind, len, store, b ^ 0x20, 2);
+            return push(kind, len, noise, store, b ^ 0x20, 2);
         }
-        return stands(kind, BAD_ESCAPE, len);
+        return stands(kind, BAD_ESCAPE, len, noise);
     }
-    stands(kind, m, len)
+    if m == OUTSIDE {
+        return stands(kind, m, len, counted(noise, 1));
+    }
+    stands(kind, m, len, noise)
 }
 
 // Takes a piece's bytes up to and including the one that completes an item, else the whole piece.
@@ -488,7 +558,8 @@ pub fn feed(r: Receiver, store: &mut [u8], piece: &[u8], frame: &mut [u8]) -> Fe
 {
     let mode = r.mode;
     let len = r.len;
-    if !in_range(mode, len, store.len()) {
+    let noise = r.noise;
+    if !in_range(mode, len, noise, store.len()) {
         return Fed {
             receiver: r,
             taken: 0,
@@ -534,13 +605,14 @@ pub fn silence(r: Receiver, store: &[u8]) -> Quiet
     let kind = r.kind;
     let mode = r.mode;
     let len = r.len;
-    if !in_range(mode, len, store.len()) {
+    let noise = r.noise;
+    if !in_range(mode, len, noise, store.len()) {
         return Quiet {
             receiver: r,
             answer: Answer::Refused(Refusal::BadRecord),
         };
     }
-    let after = outside(kind);
+    let after = outside(kind, noise);
     if is_pending(mode_number(mode), len) {
         return Quiet {
             receiver: after,
@@ -551,4 +623,17 @@ pub fn silence(r: Receiver, store: &[u8]) -> Quiet
         receiver: after,
         answer: Answer::Nothing,
     }
+}
+
+// The bytes thrown away as noise so far.
+pub fn noise(r: Receiver, store: &[u8]) -> NoiseCount
+    ensures { λ n. ⌜ paperNoise n ≡ noiseOf (held r (now (store .entry))) ⌝ }
+{
+    let mode = r.mode;
+    let len = r.len;
+    let count = r.noise;
+    if !in_range(mode, len, count, store.len()) {
+        return NoiseCount::Refused(Refusal::BadRecord);
+    }
+    NoiseCount::Count(count as u32)
 }

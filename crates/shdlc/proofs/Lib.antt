@@ -5,5 +5,6 @@ pub mod Fault
 pub mod Body
 pub mod Frame
 pub mod Stream
+pub mod Noise
 pub mod ReadBack
 pub mod OneToOne

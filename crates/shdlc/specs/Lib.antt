@@ -7,3 +7,4 @@ pub mod Frame
 pub mod Stream
 pub mod Paper
 pub mod ReadBack
+pub mod Noise

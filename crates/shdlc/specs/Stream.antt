@@ -1,5 +1,5 @@
 -- 01, What a stream means. Stretch, mark and item are terms of that section. No receiver is named here.
-use Prim.Native.Nat.{ℕ}
+use Prim.Native.Nat.{ℕ, _+_}
 use mathlib.Core.Bool.{Bool, true, false, cond}
 use mathlib.Core.List.{List, [], _∷_, _++_}
 use lib.Dec.{eqb}
@@ -55,3 +55,17 @@ itemsFrom kind place (event ∷ events) = gain kind place event ++ itemsFrom kin
 -- the items of a stream, in the order gained
 unfoldable pub items : Kind → List Event → List Item
 items kind events = itemsFrom kind outside events
+
+-- 02 (viii): the bytes, none or one, that an event adds to the noise: "A delimiter isn't noise, nor are bytes of a refused stretch."
+unfoldable pub noiseIn : Place → Event → ℕ
+noiseIn outside (byte b) = cond {A = ℕ} (eqb b 0x7E) 0 1
+noiseIn outside mark = 0
+noiseIn (inside stretch) event = 0
+
+unfoldable pub noiseFrom : Place → List Event → ℕ
+noiseFrom place [] = 0
+noiseFrom place (event ∷ events) = noiseIn place event + noiseFrom (next place event) events
+
+-- "the stream's noise bytes"
+unfoldable pub noise : List Event → ℕ
+noise events = noiseFrom outside events

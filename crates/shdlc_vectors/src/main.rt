@@ -61,6 +61,8 @@ fn answer(line: &[u8]) {
         rows::checksum(line);
     } else if bytes::same(first, b"stream") {
         rows::stream(line);
+    } else if bytes::same(first, b"noise") {
+        rows::noise(line);
     } else if bytes::same(first, b"lent") {
         rows::lent(line);
     } else if bytes::same(first, b"request") {

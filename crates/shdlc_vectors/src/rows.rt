@@ -16,6 +16,7 @@ use receiver::Answer;
 use receiver::Fed;
 use receiver::Made;
 use receiver::Mode;
+use receiver::NoiseCount;
 use receiver::Quiet;
 use receiver::Receiver;
 use replies::ReadReply;
@@ -142,29 +143,68 @@ fn kind_of(w: &[u8]) -> Kind {
     Kind::Request
 }
 
-// A stream for a receiver: the items, in order.
-pub(crate) fn stream(line: &[u8]) {
-    let mut store = [0u8; 260];
-    let mut frame = [MARK; 260];
-    let Made::Fresh(fresh) = receiver::fresh(kind_of(word(line, 1)), &mut store) else {
-        return;
-    };
-    let mut seen = Seen {
-        receiver: fresh,
-        any: false,
-    };
+// Feeds what the words of a line stand for, from the third on.
+fn feed_words(from: Seen, store: &mut [u8], line: &[u8], frame: &mut [u8]) -> Seen {
+    let mut seen = from;
     let mut k: usize = 2;
     while k < line.len() {
         let w = word(line, k);
         if w.len() == 0 {
             break;
         }
-        seen = feed_word(seen, &mut store, w, &mut frame);
+        seen = feed_word(seen, store, w, frame);
         k += 1;
     }
+    seen
+}
+
+// The bytes that a receiver threw away as noise, where there are any.
+fn counted(r: Receiver, store: &[u8]) {
+    match receiver::noise(r, store) {
+        NoiseCount::Count(n) => {
+            if 0 < n {
+                show::text(b" noise ");
+                show::decimal(n as u64);
+            }
+        }
+        NoiseCount::Refused(why) => show::refused(why),
+    }
+}
+
+// What a receiver makes of a line's words: the items, in order, and the noise.
+fn heard(from: Receiver, store: &mut [u8], line: &[u8]) {
+    let mut frame = [MARK; 260];
+    let start = Seen {
+        receiver: from,
+        any: false,
+    };
+    let seen = feed_words(start, store, line, &mut frame);
     if !seen.any {
         show::text(b" nothing");
     }
+    let r = seen.receiver;
+    counted(r, store);
+}
+
+// A stream for a fresh receiver.
+pub(crate) fn stream(line: &[u8]) {
+    let mut store = [0u8; 260];
+    let Made::Fresh(fresh) = receiver::fresh(kind_of(word(line, 1)), &mut store) else {
+        return;
+    };
+    heard(fresh, &mut store, line);
+}
+
+// A stream for a receiver that has thrown away so many bytes.
+pub(crate) fn noise(line: &[u8]) {
+    let mut store = [0u8; 260];
+    let record = Receiver {
+        kind: Kind::Request,
+        mode: Mode::Outside,
+        len: 0,
+        noise: number(word(line, 1)) as usize,
+    };
+    heard(record, &mut store, line);
 }
 
 // As much of the room as is asked for, or all.
@@ -210,6 +250,7 @@ pub(crate) fn lent(line: &[u8]) {
         kind: Kind::Request,
         mode: Mode::Plain,
         len: number(word(line, 1)) as usize,
+        noise: 0,
     };
     let stored = number(word(line, 2)) as usize;
     let framed = number(word(line, 3)) as usize;

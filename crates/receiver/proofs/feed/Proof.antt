@@ -1,6 +1,6 @@
 -- `receiver::feed` meets its contract, by what `in_range`, `scan_one`, `scan` and `complete` ensure. Assumes nothing.
 use borrow.Author.Needs.{needs}
-use Prim.Native.Nat.{ℕ}
+use Prim.Native.Nat.{ℕ, _<_}
 use native.Mathlib.Omega.{arith}
 use mathlib.Core.Path.{_≡_, sym, _∙_}
 use mathlib.Core.Bool.{true, false}
@@ -9,7 +9,7 @@ use lib.ListN.{length}
 use denote.Ref.{now}
 use Rattle.receiver.specs.Record.{Record, held, inRange}
 use Rattle.receiver.specs.Calls.{Outcome, Scan, scanFrom, completed, unfinished, feedOf}
-use Rattle.receiver.proofs.Cases.{not-true, not-false, range-size, feed-range, feed-room, feed-open, feed-closed, one-byte}
+use Rattle.receiver.proofs.Cases.{not-true, not-false, range-size, range-few, feed-range, feed-room, feed-open, feed-closed, one-byte}
 use Rattle.receiver.proofs.feed.Statement.{statement}
 use Rattle.receiver.proofs.feed.Tie as tie
 
@@ -36,6 +36,9 @@ module _ (c : tie.Else2) where
 
   size : length (rec test .store) ≡ 260
   size = range-size (rec test) (in-range (c .before))
+
+  few : rec test .noise < 4294967296
+  few = range-few (rec test) (in-range (c .before))
 
   module _ (s : Scan) (found : s ≡ scanFrom 0 (rec test) (piece test)) where
     gives-item : {o : Outcome} → s .closed ≡ true → o ≡ completed (s .before) (s .taken) (frame test)
@@ -68,7 +71,7 @@ feed-spec =
     (λ c. sym (feed-range _ _ _ (sym (c .before .in-range .ensures) ∙ not-true _ (c .if1 .taken))))
     (λ c. sym (feed-room _ _ _ (in-range (c .before)) (c .if2 .taken)))
     (λ c. search needs)
-    (λ c κs. size (c .before .before .before))
+    (λ c κs. (size (c .before .before .before), few (c .before .before .before)))
     (λ c κs. let h = size (at-one (c .before .before .before .before .before .before)) in (omega arith, omega arith))
     (λ c. search needs)
     (λ c. search needs)
@@ -78,7 +81,7 @@ feed-spec =
     gives-item (at-one o) (one o) (one-found o) (t .if4 .taken) (c .before .before .complete .ensures))
     (λ c. search needs)
     (λ c. let o = c .before .before .before .before in gives-none (at-one o) (one o) (one-found o) (c .if4 .left))
-    (λ c κs. size (c .before .before))
+    (λ c κs. (size (c .before .before), few (c .before .before)))
     (λ c κs. let h = size (at-scan (c .before .before .before .before .before .before)) in (omega arith, omega arith))
     (λ c. search needs)
     (λ c. search needs)

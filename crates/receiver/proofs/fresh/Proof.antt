@@ -19,15 +19,15 @@ abbrev zeros : List ℕ
 zeros = replicate 260 0
 
 -- the part that was cleared, the rest of the lent store, and the struct beside it
-cleared : (kind : Kind) (r : Receiver) (store first : List ℕ) → 260 ≤ length store → first ≡ replicate (length (take 260 store)) 0 → r ≡ outsideOf kind
+cleared : (kind : Kind) (r : Receiver) (store first : List ℕ) → 260 ≤ length store → first ≡ replicate (length (take 260 store)) 0 → r ≡ outsideOf kind 0
     → _≡_ {A = Answered Record × List ℕ} (served (held r (take 260 (first ++ drop 260 store))), first ++ drop 260 store) (freshOf kind store)
 unfolding freshOf overlay
 cleared kind r store first h e f =
     let z : first ≡ zeros = e ∙ ap (λ (n : ℕ). replicate n 0) (length-take-le 260 store h) in
     let size : length zeros ≡ 260 = length-replicate {A = ℕ} 260 0 in
     ap (λ (x : Receiver). (served (held x (take 260 (first ++ drop 260 store))), first ++ drop 260 store)) f
-    ∙ ap (λ (l : List ℕ). (served (held (outsideOf kind) (take 260 (l ++ drop 260 store))), l ++ drop 260 store)) z
-    ∙ ap (λ (l : List ℕ). (served (held (outsideOf kind) l), zeros ++ drop 260 store)) (take-at zeros (drop 260 store) 260 size)
+    ∙ ap (λ (l : List ℕ). (served (held (outsideOf kind 0) (take 260 (l ++ drop 260 store))), l ++ drop 260 store)) z
+    ∙ ap (λ (l : List ℕ). (served (held (outsideOf kind 0) l), zeros ++ drop 260 store)) (take-at zeros (drop 260 store) 260 size)
     ∙ rw (le-ltb (length store) 260 h)
 
 returns : tie.Need-returns

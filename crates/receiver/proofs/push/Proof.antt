@@ -16,7 +16,7 @@ push-spec =
     (λ c.
     let a = c .before .before .before .args in
     stood _ (c .stands .ensures)
-    ∙ ap passing (sym (store-room (inStretch (a .kind) (a .len) (a .store .now)) (a .v) (c .before .if1 .taken))))
+    ∙ ap passing (sym (store-room (inStretch (a .kind) (a .len) (a .noise) (a .store .now)) (a .v) (c .before .if1 .taken))))
     (λ c κs. search needs)
     (λ c κs. search needs)
     (λ c.
@@ -24,4 +24,4 @@ push-spec =
     let a = p .before .before .before .args in
     stood _ (c .stands2 .ensures)
     ∙ ap passing
-    (sym (store-full (inStretch (a .kind) (a .len) (a .store .now)) (a .v) (p .before .if1 .left) (p .before .before .before .pre .1) (p .past .ensures)))))
+    (sym (store-full (inStretch (a .kind) (a .len) (a .noise) (a .store .now)) (a .v) (p .before .if1 .left) (p .before .before .before .pre .1) (p .past .ensures)))))

@@ -1,6 +1,6 @@
 -- `receiver::scan_one` meets its contract: each `return` by the law of the turn that it is. Assumes nothing.
 use borrow.Author.Needs.{needs}
-use Prim.Native.Nat.{ℕ}
+use Prim.Native.Nat.{ℕ, _+_}
 use mathlib.Core.Path.{_≡_, sym, ap, subst, _∙_}
 use mathlib.Core.Bool.{true, false}
 use mathlib.Core.List.{List, [], _∷_}
@@ -8,11 +8,11 @@ use Rattle.receiver.specs.declared.Mode.{Mode}
 use Rattle.receiver.specs.declared.Mode.the-variants.{Plain, Escaped, BadEscape, BareControl}
 use Rattle.receiver.specs.declared.Receiver.{Receiver}
 use Rattle.receiver.specs.declared.Scanned.{Scanned}
-use Rattle.receiver.specs.Record.{held, numberOfMode, modeOf, Store, Become, actOf, acted, pendingIn}
+use Rattle.receiver.specs.Record.{held, numberOfMode, modeOf, Store, Become, Discard, limited, actOf, acted, pendingIn}
 use Rattle.receiver.specs.Calls.{Scan, scannedAs, scanFrom}
-use Rattle.receiver.proofs.Modes.{mode-back, pending-by-number, act-escape, act-control, act-plain, act-escaped, act-bad, act-none}
+use Rattle.receiver.proofs.Modes.{mode-back, pending-by-number, act-escape, act-control, act-plain, act-escaped, act-bad, act-noise, act-none}
 use Rattle.receiver.proofs.Place.{came-as}
-use Rattle.receiver.proofs.Turns.{inStretch, passing, standing, stood, store-any, turn-close, turn-open, turn-act, turn-become, scan-end}
+use Rattle.receiver.proofs.Turns.{inStretch, passing, standing, stood, store-any, turn-close, turn-open, turn-act, turn-become, turn-discard, scan-end}
 use Rattle.receiver.proofs.scan_one.Statement.{statement}
 use Rattle.receiver.proofs.scan_one.Tie as tie
 
@@ -22,30 +22,36 @@ module _ (r : Receiver) {m : ℕ} (is : m ≡ numberOfMode (r .mode)) (store : L
   same = ap modeOf is ∙ mode-back (r .mode)
 
   abbrev ended : Mode → Scan
-  ended mode = record { before = record { kind = r .kind; mode = mode; len = r .len; store = store }; taken = 1; closed = true }
+  ended mode = record { before = record { kind = r .kind; mode = mode; len = r .len; noise = r .noise; store = store }; taken = 1; closed = true }
 
   closes : {mode : Mode} → mode ≡ modeOf m → b ≡ 0x7E → pendingIn (modeOf m) (r .len) ≡ true
       → ended mode ≡ scanFrom 0 (held r store) (b ∷ [])
   closes f e p = ap ended (f ∙ same) ∙ sym (turn-close 0 (held r store) b [] e (pending-by-number (r .mode) m (r .len) is p))
 
   module _ {s : Scanned} where
-    opens : s ≡ standing (r .kind) Plain 0 → b ≡ 0x7E → pendingIn (modeOf m) (r .len) ≡ false
+    opens : s ≡ standing (r .kind) Plain 0 (r .noise) → b ≡ 0x7E → pendingIn (modeOf m) (r .len) ≡ false
         → scannedAs s store ≡ scanFrom 0 (held r store) (b ∷ [])
     opens f e p =
         stood store f
         ∙ sym (turn-open 0 (held r store) b [] e (pending-by-number (r .mode) m (r .len) is p) ∙ scan-end 1 _)
 
     module _ (no-end : b ≡ 0x7E → ⊥) where
-      becomes : (mode : Mode) → s ≡ standing (r .kind) mode (r .len) → actOf (modeOf m) b ≡ Become mode
+      becomes : (mode : Mode) → s ≡ standing (r .kind) mode (r .len) (r .noise) → actOf (modeOf m) b ≡ Become mode
           → scannedAs s store ≡ scanFrom 0 (held r store) (b ∷ [])
       becomes mode f p =
           stood store f
           ∙ sym (turn-become 0 (held r store) b [] no-end mode (subst (λ (x : Mode). actOf x b ≡ Become mode) same p) ∙ scan-end 1 _)
 
-      keeps : {after : List ℕ} (v : ℕ) → scannedAs s after ≡ passing (acted (inStretch (r .kind) (r .len) store) (Store v))
+      discards : {k : ℕ} → s ≡ standing (r .kind) (modeOf m) (r .len) k → k ≡ limited (r .noise + 1) → m ≡ 0
+          → scannedAs s store ≡ scanFrom 0 (held r store) (b ∷ [])
+      discards {k} f q p =
+          stood store (f ∙ ap (λ (x : Mode). standing (r .kind) x (r .len) k) same)
+          ∙ sym (turn-discard 0 (held r store) b [] no-end (subst (λ (x : Mode). actOf x b ≡ Discard) same (act-noise m b p)) q ∙ scan-end 1 _)
+
+      keeps : {after : List ℕ} (v : ℕ) → scannedAs s after ≡ passing (acted (inStretch (r .kind) (r .len) (r .noise) store) (Store v))
           → actOf (modeOf m) b ≡ Store v → scannedAs s after ≡ scanFrom 0 (held r store) (b ∷ [])
       keeps v f p =
-          f ∙ ap passing (store-any (r .kind) (r .mode) (r .len) store v)
+          f ∙ ap passing (store-any (r .kind) (r .mode) (r .len) (r .noise) store v)
           ∙ sym (turn-act 0 (held r store) b [] no-end (Store v) (subst (λ (x : Mode). actOf x b ≡ Store v) same p) ∙ scan-end 1 _)
 
 pub scan-one-spec : {M : Type 1} → statement M
@@ -112,7 +118,13 @@ scan-one-spec =
     becomes _ (e .before .mode-number .ensures) _ _ (e .if1 .left) BadEscape (c .stands4 .ensures)
     (act-bad _ _ _ (k .before .if6 .taken) (k .is-escaped .ensures) (c .before .if7 .left)))
     (λ c κs. search needs)
+    (λ c κs. search needs)
     (λ c.
-    let e = c .before .before .before in
-    becomes _ (e .before .mode-number .ensures) _ _ (e .if1 .left) _ (c .stands5 .ensures)
-    (act-none _ _ (c .before .before .if3 .left) (c .before .if6 .left))))
+    let k = c .before in
+    let e = k .before .before .before .before in
+    discards _ (e .before .mode-number .ensures) _ _ (e .if1 .left) (c .stands5 .ensures) (k .counted .ensures) (k .before .if8 .taken))
+    (λ c κs. search needs)
+    (λ c.
+    let e = c .before .before .before .before in
+    becomes _ (e .before .mode-number .ensures) _ _ (e .if1 .left) _ (c .stands6 .ensures)
+    (act-none _ _ (c .before .before .before .if3 .left) (c .before .before .if6 .left) (c .before .if8 .left))))

@@ -11,4 +11,4 @@ stands-spec =
     tie.close
     (tie.spec
     (λ c κs. search needs)
-    (λ c. let a = c .before .args in ap (λ (mode : Mode). standing (a .kind) mode (a .len)) (c .mode-of .ensures)))
+    (λ c. let a = c .before .args in ap (λ (mode : Mode). standing (a .kind) mode (a .len) (a .noise)) (c .mode-of .ensures)))

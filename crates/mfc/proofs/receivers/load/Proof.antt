@@ -28,9 +28,15 @@ load-spec =
     (λ c. search needs)
     (λ c. search needs)
     (λ c κs. search needs)
+    (λ c. search needs)
+    (λ c. search needs)
+    (λ c. search needs)
+    (λ c. search needs)
+    (λ c κs. search needs)
     (λ c.
-    let o = c .before .before .before .before in
+    let j = c .before .before .before .before .before in
+    let o = j .before .before .before .before in
     let m = o .before .before in
     let k = m .before .before .before in
     let a = k .before .before in
-    load-held _ (a .before .before .if1 .left) (a .kind-at .ensures) (k .kind .given .1) (m .mode-at .ensures) (o .mode .given .1) (c .joined .ensures)))
+    load-held _ (a .before .before .if1 .left) (a .kind-at .ensures) (k .kind .given .1) (m .mode-at .ensures) (o .mode .given .1) (j .joined .ensures) (c .four .ensures)))

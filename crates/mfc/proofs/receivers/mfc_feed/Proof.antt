@@ -1,17 +1,18 @@
 -- `mfc::receivers::mfc_feed` meets its contract. Assumes nothing.
 use borrow.Author.Needs.{needs}
 use Prim.Native.Nat.{ℕ, _≤_, _<_}
+use mathlib.Core.Path.{sym, _∙_}
 use mathlib.Core.List.{List}
 use lib.ListN.{length, getD}
-use Rattle.mfc.proofs.Heads.{loaded-long}
-use Rattle.mfc.proofs.Lent.{feed-bad, feed-held, stored-long}
+use Rattle.mfc.proofs.Heads.{loaded-long, loaded-noise}
+use Rattle.mfc.proofs.Lent.{feed-bad, feed-held, stored-long, stored-noise}
 use Rattle.mfc.proofs.receivers.mfc_feed.Statement.{statement}
 use Rattle.mfc.proofs.receivers.mfc_feed.Tie as tie
 
 abbrev lent : tie.After-known-told → List ℕ
 lent c = c .before .before .before .before .before .before .before .before .args .«record» .now
 
-long : (c : tie.After-known-told) → 264 ≤ length (lent c)
+long : (c : tie.After-known-told) → 268 ≤ length (lent c)
 long c = loaded-long _ (c .before .before .before .load .ensures) (c .before .r .given .1)
 
 byte : (c : tie.After-known-told) (i : ℕ) → getD (lent c) i 0 < 256
@@ -31,16 +32,19 @@ mfc-feed-spec =
     (λ c. search needs)
     (λ c. long c)
     (λ c κs. search needs)
-    (λ c κs.
-    let f = c .before .before .before .before .before .before in
-    let t = f .before .before .before in
-    stored-long (lent t) (f .feed .last .1 .0) (long t))
     (λ c κs. search needs)
+    (λ c κs.
+    let f = c .before .before .before .before .before .before .before in
+    let t = f .before .before .before in (
+      stored-long (lent t) (f .feed .last .1 .0) (long t),
+      loaded-noise _ (t .before .before .before .load .ensures) (t .before .r .given .1) ∙ sym (stored-noise (lent t) (f .feed .last .1 .0) (long t)),
+    ))
     (λ c. search needs)
     (λ c. search needs)
     (λ c.
-    let p = c .before .before .before in
-    let f = p .before .before .before .before .before .before .before in
+    let p = c .before .before in
+    let w = p .before .before in
+    let f = w .before .before .before .before .before .before in
     let t = f .before .before .before in
     feed-held _ (t .before .before .before .load .ensures) _ _ (f .feed .result) (byte t) (long t) (t .before .r .given .1) (f .feed .kept .1 .0)
-    (f .feed .ensures) (p .put-place .ensures) (c .of-answer2 .ensures)))
+    (f .feed .ensures) (p .put-after .ensures) (w .of-answer2 .ensures)))

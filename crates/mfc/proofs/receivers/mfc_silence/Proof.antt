@@ -4,7 +4,7 @@ use native.Mathlib.Omega.{arith}
 use Prim.Native.Nat.{ℕ, _≤_, _<_}
 use mathlib.Core.List.{List}
 use lib.ListN.{length, getD}
-use Rattle.mfc.proofs.Heads.{loaded-long}
+use Rattle.mfc.proofs.Heads.{loaded-long, loaded-noise}
 use Rattle.mfc.proofs.Lent.{silence-bad, silence-held}
 use Rattle.mfc.proofs.receivers.mfc_silence.Statement.{statement}
 use Rattle.mfc.proofs.receivers.mfc_silence.Tie as tie
@@ -12,7 +12,7 @@ use Rattle.mfc.proofs.receivers.mfc_silence.Tie as tie
 abbrev lent : tie.After-known-told → List ℕ
 lent c = c .before .before .before .before .before .before .args .«record» .now
 
-long : (c : tie.After-known-told) → 264 ≤ length (lent c)
+long : (c : tie.After-known-told) → 268 ≤ length (lent c)
 long c = loaded-long _ (c .before .before .before .load .ensures) (c .before .r .given .1)
 
 byte : (c : tie.After-known-told) (i : ℕ) → getD (lent c) i 0 < 256
@@ -32,7 +32,9 @@ mfc-silence-spec =
     (λ c. search needs)
     (λ c. long (c .before))
     (λ c κs. search needs)
-    (λ c κs. omega (arith, long (c .before .before .before .before .before)))
+    (λ c κs.
+    let t = c .before .before .before .before .before in
+    (omega (arith, long t), loaded-noise _ (t .before .before .before .load .ensures) (t .before .r .given .1)))
     (λ c κs. search needs)
     (λ c. search needs)
     (λ c.
@@ -40,4 +42,4 @@ mfc-silence-spec =
     let q = p .before .before .before in
     let t = q .before .before .before in
     silence-held _ (t .before .before .before .load .ensures) (q .silence .result) (byte t) (long t) (t .before .r .given .1) (q .silence .ensures)
-    (p .put-place .ensures) (c .refusal-in .ensures)))
+    (p .put-after .ensures) (c .refusal-in .ensures)))

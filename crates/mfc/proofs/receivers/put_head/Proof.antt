@@ -1,5 +1,6 @@
 -- `mfc::receivers::put_head` meets its contract. Assumes nothing.
 use borrow.Author.Needs.{needs}
+use native.Mathlib.Omega.{arith}
 use mathlib.Core.Path.{_∙_}
 use lib.ListN.{length-set}
 use Rattle.mfc.proofs.Heads.{head-put}
@@ -13,9 +14,17 @@ put-head-spec =
     (λ c κs. search needs)
     (λ c. search needs)
     (λ c κs. search needs)
-    (λ c. c .before .before .put-place .kept .0 ∙ simp length-set)
+    (λ c κs.
+    let n = c .before .before .before in
+    let k = n .before .before in
+    let s = k .before .before in
+    omega (arith, n .put-noise .kept .0, s .pre, length-set (s .args .lent .now) 0 (k .kind-number .result)))
     (λ c.
     let p = c .before .before in
-    let k = p .before .before in
-    let a = k .before .before in
-    head-put _ (a .args .r) (a .pre) (k .kind-number .ensures) (p .put-place .ensures)))
+    p .put-place .kept .0 ∙ p .before .before .before .before .put-noise .kept .0 ∙ simp length-set)
+    (λ c.
+    let p = c .before .before in
+    let n = p .before .before .before .before in
+    let k = n .before .before in
+    let s = k .before .before in
+    head-put _ (s .args .r) (s .pre) (k .kind-number .ensures) (n .put-noise .ensures) (p .put-place .ensures)))
