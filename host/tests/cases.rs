@@ -3,7 +3,8 @@
 use crate::harness::*;
 use crate::interface::*;
 use crate::library::Library;
-use crate::reference::{answer_of, items, Event, Heard, Item, Kind, Reference, RECORD, STORE};
+use crate::reference::{answer_of, counted, events_of, items, noise};
+use crate::reference::{Event, Heard, Item, Kind, Reference, HEAD, RECORD, STORE};
 use crate::{call, case};
 
 fn bytes(hex: &Hex, salt: u32) -> Lent<u8> {
@@ -76,6 +77,14 @@ call! {
     Silence { record: Hex } -> u8, |self, on| {
         let mut record = bytes(&self.record, self.salt);
         outcome(on.silence(record.slice()), vec![record])
+    }
+}
+
+call! {
+    /// Asking a record of any bytes for its count.
+    ReceiverNoise { record: Hex } -> Noise, |self, on| {
+        let record = bytes(&self.record, self.salt);
+        outcome(on.receiver_noise(record.contents()), vec![record])
     }
 }
 
@@ -176,12 +185,15 @@ pub enum Step {
         widest: usize,
     },
     Mark,
+    /// The count of noise is set, as if so many bytes had been noise: to feed as many as its limit takes too long.
+    Count(u32),
 }
 
 impl Smaller for Step {
     fn smaller(&self) -> Vec<Step> {
         match self {
             Step::Mark => Vec::new(),
+            Step::Count(count) => count.smaller().into_iter().map(Step::Count).collect(),
             Step::Parts { bytes, widest } => {
                 bytes.smaller().into_iter().map(|bytes| Step::Parts { bytes, widest: *widest }).collect()
             }
@@ -211,6 +223,8 @@ struct Running {
     expected_record: Lent<u8>,
     events: Vec<Event>,
     gained: Vec<Item>,
+    /// A count, and the noise of the stream when it was set.
+    set: (u32, u64),
     salt: u32,
 }
 
@@ -221,14 +235,17 @@ impl Running {
         let expected_record = Lent::room(RECORD + salt as usize % 4, salt);
         let mut record = expected_record.clone();
         let answer = library.receiver_fresh(kind, record.slice());
-        let (events, gained) = (Vec::new(), Vec::new());
-        let mut running = Running { library, heard, record, expected_record, events, gained, salt };
+        let (events, gained, set) = (Vec::new(), Vec::new(), (0, 0));
+        let mut running = Running { library, heard, record, expected_record, events, gained, set, salt };
         same("fresh answers", &0, &answer)?;
         running.same_record()?;
         Ok(running)
     }
 
+    /// The count is asked for first, so that the record shows whether asking changes it.
     fn same_record(&mut self) -> Result<(), String> {
+        let expected = Noise { refusal: 0, count: self.heard.count() };
+        same("noise answers", &expected, &self.library.receiver_noise(self.record.contents()))?;
         self.expected_record.slice()[..RECORD].copy_from_slice(&self.heard.record());
         self.expected_record.difference(&self.record).map_or(Ok(()), |text| Err(format!("record, {text}")))
     }
@@ -242,6 +259,19 @@ impl Running {
         }
         same("silence answers", &expected, &found)?;
         self.same_record()
+    }
+
+    fn set_count(&mut self, count: u32) -> Result<(), String> {
+        self.heard.set_count(count);
+        self.record.slice()[4..HEAD].copy_from_slice(&count.to_be_bytes());
+        self.set = (count, noise(&self.events));
+        self.same_record()
+    }
+
+    /// The count that the whole stream says.
+    fn count(&self) -> u32 {
+        let (count, noise_then) = self.set;
+        counted(u64::from(count) + noise(&self.events) - noise_then)
     }
 
     /// One feeding call, its record not yet compared; answers how many bytes it took.
@@ -265,7 +295,7 @@ impl Running {
                 return Err(format!("{name}, {text}"));
             }
         }
-        self.events.extend(piece[..found.taken].iter().map(|&byte| Event::Byte(byte)));
+        self.events.extend(events_of(&piece[..found.taken]));
         if found.frame_length > 0 {
             self.gained.push(Item::Frame(frame.contents()[..found.frame_length].to_vec()));
         } else if found.refusal > 1 {
@@ -277,6 +307,7 @@ impl Running {
     fn step(&mut self, step: &Step) -> Result<(), String> {
         match step {
             Step::Mark => self.mark(),
+            Step::Count(count) => self.set_count(*count),
             Step::Feed { piece, room, again } => {
                 let mut rest = &piece.0[..];
                 loop {
@@ -323,8 +354,10 @@ impl Series {
         for (at, step) in self.steps.iter().enumerate() {
             running.step(step).map_err(|text| format!("step {at}: {text}"))?;
         }
-        // The stream follows from the calls alone; the items gained on the way are those of the whole stream.
-        same("the items are", &items(kind_of(self.kind), &running.events), &running.gained)
+        // The stream follows from the calls alone; the items gained on the way and the noise are those of the whole.
+        same("the items are", &items(kind_of(self.kind), &running.events), &running.gained)?;
+        let found = running.library.receiver_noise(running.record.contents()).count;
+        same("the noise of the stream is", &running.count(), &found)
     }
 }
 

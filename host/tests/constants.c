@@ -27,14 +27,33 @@ static const uint8_t specials[4] = {0x7E, 0x7D, 0x11, 0x13}; /* the bytes that a
 static void record_size(void)
 {
     uint8_t record[MFC_RECORD_SIZE + 8];
+    expect(MFC_RECORD_SIZE == 268, "the bytes of a record", MFC_RECORD_SIZE);
     for (size_t size = 0; size <= sizeof record; size++) {
         uint8_t refusal = mfc_receiver_fresh(MFC_KIND_REPLY, record, size);
         expect(refusal == (size < MFC_RECORD_SIZE ? MFC_REFUSAL_NO_ROOM : 0), "a fresh record of this size", size);
     }
     for (size_t size = 0; size <= sizeof record; size++) {
-        uint8_t refusal = mfc_silence(record, size);
-        expect(refusal == (size < MFC_RECORD_SIZE ? MFC_REFUSAL_BAD_RECORD : 0), "a record of this size", size);
+        int refusal = size < MFC_RECORD_SIZE ? MFC_REFUSAL_BAD_RECORD : 0;
+        expect(mfc_silence(record, size) == refusal, "a record of this size", size);
+        expect(mfc_receiver_noise(record, size).refusal == refusal, "the noise of a record of this size", size);
     }
+}
+
+/* 02 (viii): the count is that of the four bytes that the header names, and stops at 4,294,967,295. */
+static void noise_count(void)
+{
+    static const uint8_t head[] = {MFC_KIND_REPLY, 0, 0, 0, 0xFE, 0xDC, 0xBA, 0x98}, noise[] = {0x00, 0x11, 0x7D};
+    uint8_t record[MFC_RECORD_SIZE], frame[MFC_FRAME_ROOM];
+    memset(record, 0x7E, sizeof record);
+    memcpy(record, head, sizeof head);
+    expect(mfc_receiver_noise(record, sizeof record).count == 0xFEDCBA98, "the highest byte first", 0);
+    mfc_feed(record, sizeof record, noise, sizeof noise, frame, sizeof frame);
+    expect(mfc_receiver_noise(record, sizeof record).count == 0xFEDCBA9B, "three bytes more", 3);
+    memset(record + 4, 0xFF, 4);
+    mfc_feed(record, sizeof record, noise, sizeof noise, frame, sizeof frame);
+    expect(mfc_receiver_noise(record, sizeof record).count == 4294967295, "past the limit", 3);
+    mfc_receiver_fresh(MFC_KIND_REPLY, record, sizeof record);
+    expect(mfc_receiver_noise(record, sizeof record).count == 0, "a fresh receiver", 0);
 }
 
 static void frame_room(void)
@@ -378,7 +397,7 @@ int main(int argc, char **argv)
     static void (*const sections[])(void) = {
         record_size, frame_room,   request_room,  reply_room,  requests_and_replies, kinds,    refusals,  start_values,
         i2c_codes,   board_places, board_numbers, board_names, board_full,           log_room, log_kinds, log_row,
-        log_refusals,
+        log_refusals, noise_count,
     };
     const int count = sizeof sections / sizeof sections[0];
     if (argc != 2) {

@@ -298,7 +298,7 @@ fn validity_values_section(section: &mut Section) {
 
 fn fresh_section(section: &mut Section) {
     for kind in 0..=255 {
-        for size in [0, 1, 3, 4, 5, 259, 260, 263, 264, 265, 300] {
+        for size in [0, 1, 3, 4, 5, 7, 8, 9, 259, 260, 263, 264, 265, 267, 268, 269, 300] {
             let salt = salt(section);
             section.check(Fresh { kind, size, salt });
         }
@@ -310,16 +310,19 @@ fn fresh_section(section: &mut Section) {
     }
 }
 
-/// Every stream of a few events from a small alphabet, in one piece and byte by byte.
+/// Every stream of a few events from a small alphabet, in one piece and byte by byte, behind a 7E and as it is.
 fn short_streams_section(section: &mut Section) {
-    const ALPHABET: [Option<u8>; 8] =
-        [Some(0x7E), Some(0x7D), Some(0x11), Some(0x5E), Some(0x33), Some(0x00), Some(0x41), None];
-    for events in 0..6 {
-        for number in 0..ALPHABET.len().pow(events) {
-            let stream: Vec<Option<u8>> = (0..events).map(|at| ALPHABET[number >> (3 * at) & 7]).collect();
-            for kind in 0..2 {
-                for widest in [1, 8] {
-                    section.check(Series { kind, steps: pieces(&stream, widest), salt: number as u32 });
+    const ALPHABET: [u8; 7] = [0x7E, 0x7D, 0x11, 0x5E, 0x33, 0x00, 0x41];
+    let event = |at: usize| ALPHABET.get(at).map_or(Event::Mark, |&byte| Event::Byte(byte));
+    for (begin, longest) in [(vec![feed(&[DELIMITER])], 5), (Vec::new(), 4)] {
+        for events in 0..=longest {
+            for number in 0..8_usize.pow(events) {
+                let stream: Vec<Event> = (0..events).map(|at| event(number >> (3 * at) & 7)).collect();
+                for kind in 0..2 {
+                    for widest in [1, 8] {
+                        let steps = [&begin[..], &pieces(&stream, widest)].concat();
+                        section.check(Series { kind, steps, salt: number as u32 });
+                    }
                 }
             }
         }
@@ -331,15 +334,14 @@ fn feed(piece: &[u8]) -> Step {
     Step::Feed { piece: Hex(piece.to_vec()), room: 260, again: true }
 }
 
-/// A stream that begins inside a stretch, cut into pieces of a size.
-fn pieces(stream: &[Option<u8>], widest: usize) -> Vec<Step> {
-    let mut steps = vec![feed(&[DELIMITER])];
-    for (at, part) in stream.split(Option::is_none).enumerate() {
+/// A stream cut at its marks and into pieces of a size.
+fn pieces(stream: &[Event], widest: usize) -> Vec<Step> {
+    let mut steps = Vec::new();
+    for (at, part) in stream.split(|event| *event == Event::Mark).enumerate() {
         if at > 0 {
             steps.push(Step::Mark);
         }
-        let bytes: Vec<u8> = part.iter().flatten().copied().collect();
-        steps.extend(bytes.chunks(widest).map(feed));
+        steps.extend(raw_bytes(part).chunks(widest).map(feed));
     }
     steps
 }
@@ -352,20 +354,28 @@ fn series_section(section: &mut Section) {
     }
 }
 
-/// Short streams cut at every two places, with a call of short room at the first cut.
+/// A stream cut at every two places, with a call of short room at the first cut and an empty piece at the second.
+fn every_cut(section: &mut Section, kind: u8, stream: &[Event]) {
+    for first in 0..=stream.len() {
+        for second in first..=stream.len() {
+            let mut steps = pieces(&stream[..first], usize::MAX);
+            steps.push(Step::Feed { piece: Hex(raw_bytes(&stream[first..])), room: 259, again: false });
+            steps.extend(pieces(&stream[first..second], usize::MAX));
+            steps.push(feed(&[]));
+            steps.extend(pieces(&stream[second..], usize::MAX));
+            section.check(Series { kind, steps, salt: first as u32 });
+        }
+    }
+}
+
+/// Short streams of any parts.
 fn cuts_section(section: &mut Section) {
     for _ in 0..section.times(400) {
         let random = &mut section.random;
         let kind = random.below(2) as u8;
         let mut stream = generate::stream(random, kind_of(kind), 2);
         stream.truncate(40);
-        for first in 0..=stream.len() {
-            for second in first..=stream.len() {
-                let short = Step::Feed { piece: Hex(stream[first..].to_vec()), room: 259, again: false };
-                let steps = vec![feed(&stream[..first]), short, feed(&stream[first..second]), feed(&stream[second..])];
-                section.check(Series { kind, steps, salt: first as u32 });
-            }
-        }
+        every_cut(section, kind, &events_of(&stream));
     }
 }
 
@@ -511,10 +521,10 @@ fn records_section(section: &mut Section) {
         };
         let room = random.pick(&[0, 259, 260, 260, 260, 260, 260, 300]);
         let salt = salt(section);
-        if section.random.one_in(4) {
-            section.check(Silence { record, salt });
-        } else {
-            section.check(Feed { record, piece: Hex(piece), room, salt });
+        match section.random.below(8) {
+            0 | 1 => section.check(Silence { record, salt }),
+            2 => section.check(ReceiverNoise { record, salt }),
+            _ => section.check(Feed { record, piece: Hex(piece), room, salt }),
         }
     }
 }
@@ -528,8 +538,8 @@ fn lengths_section(section: &mut Section) {
     let lengths = (0..3).chain(258..264).chain(65_273..65_278).chain(65_532..=65_535);
     for length in lengths {
         for (mode, store) in (1..5).flat_map(|mode| stores.map(|store| (mode, store))) {
-            let kind = section.random.below(2) as u8;
-            let mut record = vec![kind, mode, (length >> 8) as u8, length as u8];
+            let random = &mut section.random;
+            let mut record = generate::head(random.below(2) as u8, mode, length, generate::count(random));
             record.extend(store.iter().cycle().take(STORE));
             for (bytes, end) in between.iter().flat_map(|bytes| ends.map(|end| (bytes, end))) {
                 let (record, piece) = (Hex(record.clone()), Hex([*bytes, end].concat()));
@@ -547,26 +557,116 @@ fn ranges_section(section: &mut Section) {
     for kind in 0..3 {
         for mode in 0..6 {
             for length in (0..12).chain(250..270).chain([511, 512, 517, 0xFF00, 0xFFFD, 0xFFFE, 0xFFFF]) {
-                let mut record = generate::wire_bytes(&mut section.random, RECORD);
-                record[..4].copy_from_slice(&[kind, mode, (length >> 8) as u8, length as u8]);
+                let mut record = generate::head(kind, mode, length, generate::count(&mut section.random));
+                record.extend(generate::wire_bytes(&mut section.random, STORE));
                 for piece in pieces {
                     for room in [259, 260] {
                         let (record, piece) = (Hex(record.clone()), Hex(piece.to_vec()));
                         section.check(Feed { record, piece, room, salt: length as u32 });
                     }
                 }
-                section.check(Silence { record: Hex(record), salt: length as u32 });
+                section.check(Silence { record: Hex(record.clone()), salt: length as u32 });
+                section.check(ReceiverNoise { record: Hex(record), salt: length as u32 });
             }
         }
     }
-    for field in 0..4 {
+    for (field, mode) in (0..HEAD).flat_map(|field| [(field, 0), (field, 1)]) {
         for byte in 0..=255 {
             let mut record = vec![0; RECORD];
-            record[1] = 1;
+            record[1] = mode;
             record[field] = byte;
-            section.check(Feed { record: Hex(record.clone()), piece: Hex(vec![0x7E]), room: 260, salt: 0 });
-            section.check(Silence { record: Hex(record), salt: 0 });
+            for piece in [&[0x7E][..], &[0x00], &[0x00, 0x7E]] {
+                section.check(Feed { record: Hex(record.clone()), piece: Hex(piece.to_vec()), room: 260, salt: 0 });
+            }
+            section.check(Silence { record: Hex(record.clone()), salt: 0 });
+            section.check(ReceiverNoise { record: Hex(record), salt: 0 });
         }
+    }
+}
+
+// ---- The receiver's noise
+
+/// Streams of which it is known how many bytes are noise: short ones cut at every two places, longer ones at any.
+fn noise_cuts_section(section: &mut Section) {
+    for n in 0..section.times(4_200) {
+        let random = &mut section.random;
+        let (kind, short) = (random.below(2) as u8, n % 21 == 0);
+        let (parts, longest) = if short { (3, 5) } else { (random.between(1, 8), random.pick(&[3, 20, 250])) };
+        let (stream, known) = generate::noisy(random, parts, longest);
+        section.expect("the noise of a stream", known, noise(&stream));
+        if short {
+            every_cut(section, kind, &stream);
+            continue;
+        }
+        let (mut steps, mut rest) = (Vec::new(), &stream[..]);
+        while !rest.is_empty() {
+            let (part, after) = rest.split_at(section.random.between(1, 2 * longest).min(rest.len()));
+            steps.extend(pieces(part, usize::MAX));
+            rest = after;
+        }
+        let salt = salt(section);
+        section.check(Series { kind, steps, salt });
+    }
+}
+
+/// Runs of noise around 256 and 65,536 bytes and far past them, before the first 7E and behind a mark.
+fn noise_runs_section(section: &mut Section) {
+    for n in (254..258).chain(65_534..65_539).chain([70_000, 200_000]) {
+        for widest in [1, 2, 16, 4096, 65_535, 65_536, n] {
+            let random = &mut section.random;
+            let mut run = || Step::Parts { bytes: Hex(generate::noise_bytes(random, n)), widest };
+            let steps =
+                vec![run(), feed(&[DELIMITER, 0x00]), Step::Mark, run(), feed(&[DELIMITER, 0x11]), feed(&[DELIMITER])];
+            section.check(Series { kind: (widest % 2) as u8, steps, salt: n as u32 });
+        }
+    }
+}
+
+/// Counts a little below the limit, and below each number at which another byte of the record changes: noise short of
+/// it, up to it and past it, in one piece, byte by byte, and with a mark or a frame between.
+fn noise_limit_section(section: &mut Section) {
+    let frame = wire(&body(&[0x00, 0x45, 0x00]));
+    for edge in generate::COUNT_EDGES {
+        for below in (0..6).chain([254, 255, 256, 257, 300, 65_535, 65_536]) {
+            let Some(count) = edge.checked_sub(below) else { continue };
+            for n in [below.saturating_sub(1), below, below + 1, below + 2, below + 40] {
+                let bytes = generate::noise_bytes(&mut section.random, n as usize);
+                let (first, second) = bytes.split_at(section.random.below(bytes.len() + 1));
+                let widest = if n < 1000 { 1 } else { 4096 };
+                let begun = [first, &frame[..3]].concat();
+                let framed = [first, &frame].concat();
+                let ways = [
+                    vec![feed(&bytes)],
+                    vec![Step::Parts { bytes: Hex(bytes.clone()), widest }],
+                    vec![feed(first), Step::Mark, feed(second)],
+                    vec![feed(&begun), Step::Mark, feed(second)],
+                    vec![feed(&framed), Step::Mark, feed(second), feed(&frame), Step::Mark, feed(&bytes)],
+                ];
+                for (salt, steps) in (0..).zip(ways) {
+                    let steps = [&[Step::Count(count)][..], &steps].concat();
+                    section.check(Series { kind: (n % 2) as u8, steps, salt });
+                }
+            }
+        }
+    }
+}
+
+/// The count in any bytes of any length, which are only read; 2 where they are too few or a field is out of its range.
+fn noise_asked_section(section: &mut Section) {
+    for size in 0..RECORD + 40 {
+        for mode in 0..6 {
+            let count = generate::count(&mut section.random);
+            let mut record = generate::head(mode % 2, mode, 0, count);
+            record.resize(size, 0x7E);
+            section.check(ReceiverNoise { record: Hex(record), salt: size as u32 });
+        }
+    }
+    for _ in 0..section.times(60_000) {
+        let random = &mut section.random;
+        let size = random.below(2 * RECORD);
+        let record = if random.one_in(4) { generate::some_bytes(random, size) } else { generate::record(random) };
+        let salt = salt(section);
+        section.check(ReceiverNoise { record: Hex(record), salt });
     }
 }
 
@@ -866,6 +966,10 @@ fn main() {
     report.section("receiver: records", records_section);
     report.section("receiver: lengths of a record", lengths_section);
     report.section("receiver: ranges of a record", ranges_section);
+    report.section("receiver: noise at every cut", noise_cuts_section);
+    report.section("receiver: long runs of noise", noise_runs_section);
+    report.section("receiver: the limit of the noise count", noise_limit_section);
+    report.section("receiver: asked for its noise", noise_asked_section);
     report.section("requests written and read back", requests_round_trip);
     report.section("replies written and read back", replies_round_trip);
     report.section("replies read, written and read again", replies_read_again);

@@ -413,6 +413,56 @@ pub fn faulty(random: &mut Random, place: usize, escapes: Escapes, fault: &[u8])
     stream
 }
 
+/// Bytes for a place where they are noise: any but 7E, some of them its neighbours.
+pub fn noise_bytes(random: &mut Random, n: usize) -> Vec<u8> {
+    let mut bytes = some_bytes(random, n);
+    bytes.iter_mut().filter(|byte| **byte == DELIMITER).for_each(|byte| *byte = random.pick(&[0x7F, 0x7D, 0xFE, 0x7C]));
+    bytes
+}
+
+/// A stream of parts with a mark between each two, and how many of its bytes are noise: each part begins with noise, or
+/// with none, and at times goes on with a 7E and bytes that are no noise, whatever they are.
+pub fn noisy(random: &mut Random, parts: usize, longest: usize) -> (Vec<Event>, u64) {
+    let (mut events, mut noise) = (Vec::new(), 0);
+    for part in 0..parts {
+        if part > 0 {
+            events.push(Event::Mark);
+        }
+        let n = random.below(longest + 1);
+        noise += n as u64;
+        events.extend(events_of(&noise_bytes(random, n)));
+        if !random.one_in(3) {
+            events.push(Event::Byte(DELIMITER));
+            let n = random.below(longest + 1);
+            let stretches =
+                if random.one_in(3) { stuffed(&good_body(random, Kind::Request, n)) } else { wire_bytes(random, n) };
+            events.extend(events_of(&stretches));
+        }
+    }
+    (events, noise)
+}
+
+/// The counts of noise at which another byte of the record changes, and the limit.
+pub const COUNT_EDGES: [u32; 6] = [0, 1 << 8, 1 << 16, 1 << 24, 1 << 31, u32::MAX];
+
+/// A count of noise: around 0 or another edge, often near the limit, or any.
+pub fn count(random: &mut Random) -> u32 {
+    match random.below(8) {
+        0 => 0,
+        1..=3 => u32::MAX - random.pick(&[0, 1, 2, 20, 300, 70_000]),
+        4 | 5 => random.pick(&COUNT_EDGES).wrapping_add(random.below(40) as u32).wrapping_sub(20),
+        6 => random.below(300) as u32,
+        _ => random.u32() >> random.below(32),
+    }
+}
+
+/// The bytes of a record before its store.
+pub fn head(kind: u8, mode: u8, length: usize, count: u32) -> Vec<u8> {
+    let mut head = vec![kind, mode, (length / 256) as u8, (length % 256) as u8];
+    head.extend(count.to_be_bytes());
+    head
+}
+
 /// A room for the frame: mostly as required, at times too short or long.
 fn frame_room(random: &mut Random) -> usize {
     match random.below(16) {
@@ -455,10 +505,15 @@ pub fn stream(random: &mut Random, kind: Kind, parts: usize) -> Vec<u8> {
 pub fn series(random: &mut Random, salt: u32) -> Series {
     let kind_number = random.below(2) as u8;
     let kind = crate::cases::kind_of(kind_number);
-    let parts = random.between(1, 5);
-    let stream = stream(random, kind, parts);
+    let (parts, n) = (random.between(1, 5), random.pick(&[0, 0, 1, 2, 9, 40, 300]));
+    let mut bytes = noise_bytes(random, n);
+    bytes.extend(stream(random, kind, parts));
     let marks = random.pick(&[4, 12, 100_000]);
-    Series { kind: kind_number, steps: steps(random, &stream, marks), salt }
+    let mut steps = steps(random, &bytes, marks);
+    if random.one_in(2) {
+        steps.insert(random.below(steps.len() + 1), Step::Count(count(random)));
+    }
+    Series { kind: kind_number, steps, salt }
 }
 
 /// A record in range that a stream may leave, or one with a field out of range.
@@ -466,9 +521,11 @@ pub fn record(random: &mut Random) -> Vec<u8> {
     let size = match random.below(10) {
         0 => random.below(RECORD),
         1 => random.between(RECORD + 1, RECORD + 20),
+        // At times that of before 02 (viii).
+        2 => random.pick(&[264, 267, RECORD, RECORD]),
         _ => RECORD,
     };
-    let mut record = some_bytes(random, size.max(4));
+    let mut record = some_bytes(random, size.max(HEAD));
     let mode = random.below(5) as u8;
     // The reference makes up as many bytes as a length past the store's says, so large ones are few here and below.
     let length = match (mode, random.below(100)) {
@@ -480,10 +537,7 @@ pub fn record(random: &mut Random) -> Vec<u8> {
         (_, 30..=49) => random.between(255, 265),
         _ => random.below(9),
     };
-    record[0] = random.below(2) as u8;
-    record[1] = mode;
-    record[2] = (length / 256) as u8;
-    record[3] = (length % 256) as u8;
+    record[..HEAD].copy_from_slice(&head(random.below(2) as u8, mode, length, count(random)));
     make_good(random, &mut record, length);
     if random.one_in(6) {
         let at = random.below(4);
@@ -500,8 +554,9 @@ fn make_good(random: &mut Random, record: &mut [u8], length: usize) {
         return;
     }
     let header = 3 + usize::from(record[0]);
-    record[4 + header - 1] = (length - header - 1) as u8;
-    record[4 + length - 1] = checksum(&record[4..4 + length - 1]);
+    let body = &mut record[HEAD..HEAD + length];
+    body[header - 1] = (length - header - 1) as u8;
+    body[length - 1] = checksum(&body[..length - 1]);
 }
 
 pub fn round(random: &mut Random, salt: u32) -> crate::cases::Round {

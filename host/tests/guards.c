@@ -33,6 +33,7 @@ mfc_reply mfc_read_reply(uint8_t address, uint8_t request, uint32_t value, const
 uint8_t mfc_receiver_fresh(uint8_t kind, uint8_t *record, size_t size);
 mfc_fed mfc_feed(uint8_t *record, size_t size, const uint8_t *piece, size_t n, uint8_t *frame, size_t room);
 uint8_t mfc_silence(uint8_t *record, size_t size);
+mfc_noise mfc_receiver_noise(const uint8_t *record, size_t size);
 mfc_words mfc_read_words(uint8_t start, const uint8_t *bytes, size_t n, uint16_t *words, size_t room);
 mfc_written mfc_write_words(uint8_t start, const uint16_t *words, size_t n, uint8_t *out, size_t room);
 mfc_written mfc_write_sfc6(uint16_t code, uint32_t concentration, uint8_t *out, size_t room);
@@ -57,6 +58,7 @@ mfc_words mfc_log_list(const uint8_t *file, size_t length, size_t skip, uint16_t
 _Static_assert(offsetof(mfc_reply, value) == 4, "four bytes stand before the value");
 _Static_assert(offsetof(mfc_fed, place) == 2 && offsetof(mfc_fed, frame_length) == sizeof(size_t),
                "the place of a fault stands between the refusal and the lengths");
+_Static_assert(sizeof(mfc_noise) == 8 && offsetof(mfc_noise, count) == 4, "a refusal and a count of four bytes");
 _Static_assert(offsetof(mfc_register, value) == 2, "the register's value follows the refusal");
 _Static_assert(sizeof(mfc_quantity) == 8, "a refusal and a float");
 _Static_assert(sizeof(mfc_entry) == 6 && offsetof(mfc_entry, left) == 4, "three bytes, a free one, and the polls left");
@@ -310,6 +312,24 @@ static void silence(uint8_t *record, size_t size)
         memcpy(record, kept.bytes, size);
     }
     take_back(kept);
+}
+
+/* The count of noise in bytes that are only read. */
+static uint32_t noise_in(const uint8_t *record, size_t size)
+{
+    begin("mfc_receiver_noise");
+    struct lent kept = lend(0, record, size);
+    mfc_noise noise = mfc_receiver_noise(kept.bytes, size);
+    if (size > 0 && memcmp(kept.bytes, record, size) != 0) {
+        fail("asking for the noise changed the record");
+    }
+    if ((size < MFC_RECORD_SIZE && noise.refusal == 0) || (noise.refusal != 0 && noise.count != 0)) {
+        fail("a count without a record");
+    }
+    fold(noise.refusal);
+    fold(noise.count);
+    take_back(kept);
+    return noise.count;
 }
 
 static void fresh(uint8_t kind, uint8_t *record, size_t size)
@@ -702,8 +722,12 @@ static void receive(const uint8_t *stream, size_t length)
         at += fed.taken;
         if (below(16) == 0) {
             silence(record, MFC_RECORD_SIZE);
+            noise_in(record, MFC_RECORD_SIZE);
         }
     }
+    noise_in(record, MFC_RECORD_SIZE + below(8));
+    noise_in(record, below(MFC_RECORD_SIZE));
+    noise_in(record, 0);
     silence(record, MFC_RECORD_SIZE - below(4));
     silence(record, 0);
 }
@@ -722,6 +746,24 @@ static void far_along(void)
     record[1] = (uint8_t)(1 + below(4));
     record[2] = (uint8_t)any();
     silence(record, MFC_RECORD_SIZE);
+}
+
+/* A record outside a stretch whose count of noise is at its limit, or so little below that a piece may take it there. */
+static void much_noise(void)
+{
+    uint8_t record[MFC_RECORD_SIZE], frame[MFC_FRAME_ROOM], bytes[20];
+    wire_bytes(record, sizeof record);
+    uint32_t before = UINT32_MAX - (uint32_t)below(sizeof bytes);
+    size_t n = below(sizeof bytes + 1);
+    const uint8_t head[] = {(uint8_t)below(2), 0, 0, 0, (uint8_t)(before >> 24), (uint8_t)(before >> 16),
+                            (uint8_t)(before >> 8), (uint8_t)before};
+    memcpy(record, head, sizeof head);
+    memset(bytes, 0x7D, sizeof bytes);
+    feed(record, bytes, n, frame, MFC_FRAME_ROOM);
+    silence(record, MFC_RECORD_SIZE);
+    if (noise_in(record, MFC_RECORD_SIZE) != (n < UINT32_MAX - before ? before + n : UINT32_MAX)) {
+        fail("another count of noise");
+    }
 }
 
 static void one_round(void)
@@ -755,6 +797,7 @@ static void one_round(void)
     wire_bytes(noise, n);
     receive(noise, n);
     far_along();
+    much_noise();
     read_bodies(noise, n);
     words(below(8), below(9), below(2) == 0);
     words(below(64), below(64), 0);

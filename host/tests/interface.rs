@@ -42,6 +42,14 @@ pub struct Fed {
     pub taken: usize,
 }
 
+/// The bytes that a receiver has thrown away as noise; 0 with a refusal.
+#[repr(C)]
+#[derive(Clone, Copy, Debug, Default, PartialEq, Eq)]
+pub struct Noise {
+    pub refusal: u8,
+    pub count: u32,
+}
+
 /// Words read, the records of a log or the rows listed; with refusal 17 the count is the first wrong word's index.
 #[repr(C)]
 #[derive(Clone, Copy, Debug, Default, PartialEq, Eq)]
@@ -123,6 +131,7 @@ pub trait Interface {
     fn receiver_fresh(&self, kind: u8, record: &mut [u8]) -> u8;
     fn feed(&self, record: &mut [u8], piece: &[u8], frame: &mut [u8]) -> Fed;
     fn silence(&self, record: &mut [u8]) -> u8;
+    fn receiver_noise(&self, record: &[u8]) -> Noise;
     fn read_words(&self, start: u8, bytes: &[u8], words: &mut [u16]) -> Words;
     fn write_words(&self, start: u8, words: &[u16], out: &mut [u8]) -> Written;
     fn write_sfc6(&self, code: u16, concentration: u32, out: &mut [u8]) -> Written;

@@ -32,6 +32,7 @@ extern "C" {
     fn mfc_receiver_fresh(kind: u8, record: *mut u8, size: usize) -> u8;
     fn mfc_feed(record: *mut u8, size: usize, piece: *const u8, n: usize, frame: *mut u8, room: usize) -> Fed;
     fn mfc_silence(record: *mut u8, size: usize) -> u8;
+    fn mfc_receiver_noise(record: *const u8, size: usize) -> Noise;
     fn mfc_read_words(start: u8, bytes: *const u8, n: usize, words: *mut u16, room: usize) -> Words;
     fn mfc_write_words(start: u8, words: *const u16, n: usize, out: *mut u8, room: usize) -> Written;
     fn mfc_write_sfc6(code: u16, concentration: u32, out: *mut u8, room: usize) -> Written;
@@ -130,6 +131,10 @@ impl Interface for Library {
 
     fn silence(&self, record: &mut [u8]) -> u8 {
         unsafe { mfc_silence(self.write(record), record.len()) }
+    }
+
+    fn receiver_noise(&self, record: &[u8]) -> Noise {
+        unsafe { mfc_receiver_noise(self.read(record), record.len()) }
     }
 
     fn read_words(&self, start: u8, bytes: &[u8], words: &mut [u16]) -> Words {

@@ -183,7 +183,19 @@ pub fn items(kind: Kind, events: &[Event]) -> Vec<Item> {
         .collect()
 }
 
-fn raw_bytes(events: &[Event]) -> Vec<u8> {
+/// The noise bytes of a whole stream: "Before the first 7E, and after a mark, bytes are noise". So of each part between
+/// marks they are the bytes before its first 7E, or all where it has none; what comes behind it is in a stretch.
+pub fn noise(events: &[Event]) -> u64 {
+    let before_7e = |part: &[Event]| part.iter().take_while(|event| **event != Event::Byte(DELIMITER)).count();
+    events.split(|event| *event == Event::Mark).map(|part| before_7e(part) as u64).sum()
+}
+
+/// 02 (viii): "the stream's noise bytes, or that limit if they are more"
+pub fn counted(noise: u64) -> u32 {
+    noise.min(4_294_967_295) as u32
+}
+
+pub fn raw_bytes(events: &[Event]) -> Vec<u8> {
     let byte = |event: &Event| match event {
         Event::Byte(byte) => Some(*byte),
         Event::Mark => None,
@@ -191,21 +203,38 @@ fn raw_bytes(events: &[Event]) -> Vec<u8> {
     events.iter().filter_map(byte).collect()
 }
 
-pub const STORE: usize = 260;
-pub const RECORD: usize = 264;
+pub fn events_of(bytes: &[u8]) -> Vec<Event> {
+    bytes.iter().map(|&byte| Event::Byte(byte)).collect()
+}
 
-/// What a receiver has heard: the raw bytes since the last 7E (none in noise), and what the stretches that ended left
-/// in the store.
+pub const STORE: usize = 260;
+/// The bytes of a record before its store: kind, mode, length (high, low), noise count (four bytes, the highest first).
+pub const HEAD: usize = 8;
+pub const RECORD: usize = HEAD + STORE;
+
+/// What a receiver has heard: the raw bytes since the last 7E (none in noise), how many bytes were noise, and what the
+/// stretches that ended left in the store.
 #[derive(Clone, Debug)]
 pub struct Heard {
     kind: Kind,
     stretch: Option<Vec<u8>>,
+    noise: u64,
     left: [u8; STORE],
 }
 
 impl Heard {
     pub fn nothing(kind: Kind) -> Heard {
-        Heard { kind, stretch: None, left: [0; STORE] }
+        Heard { kind, stretch: None, noise: 0, left: [0; STORE] }
+    }
+
+    /// The count as it is told, and as it stands in the record.
+    pub fn count(&self) -> u32 {
+        counted(self.noise)
+    }
+
+    /// As if so many bytes had been noise up to here.
+    pub fn set_count(&mut self, count: u32) {
+        self.noise = u64::from(count);
     }
 
     /// The store: the unstuffed bytes of the open stretch over what earlier ones left.
@@ -219,8 +248,8 @@ impl Heard {
         store
     }
 
-    /// The record of the C interface: kind, mode, length (high, low), store. The length counts the stored bytes, then
-    /// the raw bytes that those past the store came as, up to 65,535.
+    /// The record of the C interface. Its length counts the stored bytes, then the raw bytes that those past the store
+    /// came as, up to 65,535.
     pub fn record(&self) -> [u8; RECORD] {
         let (mode, length) = match self.stretch.as_deref().map(unstuffed) {
             None => (0, 0),
@@ -240,7 +269,8 @@ impl Heard {
         };
         record[1] = mode;
         record[2..4].copy_from_slice(&reported(length).to_be_bytes());
-        record[4..].copy_from_slice(&self.store());
+        record[4..HEAD].copy_from_slice(&self.count().to_be_bytes());
+        record[HEAD..].copy_from_slice(&self.store());
         record
     }
 
@@ -255,7 +285,7 @@ impl Heard {
             return None;
         }
         let mut left = [0; STORE];
-        left.copy_from_slice(&record[4..RECORD]);
+        left.copy_from_slice(&record[HEAD..RECORD]);
         let mut raw = stuffed(&left[..length.min(STORE)]);
         // Past the store only the number of raw bytes is kept, so any do. 65,535 stands for more of them too: a fault
         // behind as many as it says is at 65,535 or past it already.
@@ -267,7 +297,9 @@ impl Heard {
             _ => &[],
         });
         let kind = if kind == 0 { Kind::Request } else { Kind::Reply };
-        Some(Heard { kind, stretch: if mode == 0 { None } else { Some(raw) }, left })
+        // A count at its limit stands for more too: however much it was, the limit is told again.
+        let noise = u64::from(number(&record[4..HEAD]));
+        Some(Heard { kind, stretch: if mode == 0 { None } else { Some(raw) }, noise, left })
     }
 
     /// Takes bytes up to and including the one that completes an item, or all, and says how many.
@@ -296,8 +328,9 @@ impl Heard {
     }
 
     fn add(&mut self, bytes: &[u8]) {
-        if let Some(raw) = &mut self.stretch {
-            raw.extend_from_slice(bytes);
+        match &mut self.stretch {
+            Some(raw) => raw.extend_from_slice(bytes),
+            None => self.noise += bytes.len() as u64,
         }
     }
 
@@ -806,6 +839,13 @@ impl Interface for Reference {
             9
         } else {
             0
+        }
+    }
+
+    fn receiver_noise(&self, record: &[u8]) -> Noise {
+        match Heard::from_record(record) {
+            Some(heard) => Noise { refusal: 0, count: heard.count() },
+            None => Noise { refusal: 2, count: 0 },
         }
     }
 

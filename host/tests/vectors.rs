@@ -4,7 +4,7 @@
 use crate::harness::{Report, Section};
 use crate::interface::*;
 use crate::library::Library;
-use crate::reference::{items, Event, Item, Reference, PRODUCT_TYPE, RECORD, STORE};
+use crate::reference::{counted, items, noise, Event, Item, Reference, HEAD, PRODUCT_TYPE, RECORD, STORE};
 
 const LIBRARY: Library = Library { null_for_empty: false };
 
@@ -36,8 +36,16 @@ pub fn hex(text: &str) -> Vec<u8> {
     events(text).into_iter().map(byte).collect()
 }
 
-/// Items as text: F for a frame, a number for a refusal, 4@0 for one with a place.
-fn told(items: &[Item]) -> String {
+/// What a receiver made of a stream: its items, and what it answers when it is then asked for its noise.
+type Received = (Vec<Item>, Noise);
+
+/// Items as text: F for a frame, a number for a refusal, 4@0 for one with a place; then the count of noise, but for 0.
+fn told((items, noise): &Received) -> String {
+    let counted = match noise {
+        Noise { refusal: 0, count: 0 } => None,
+        Noise { refusal: 0, count } => Some(format!("noise {count}")),
+        Noise { refusal, count } => Some(format!("noise refused {refusal} with a count {count}")),
+    };
     let names: Vec<String> = items
         .iter()
         .map(|item| match item {
@@ -46,14 +54,16 @@ fn told(items: &[Item]) -> String {
             Item::Refused(number, 0) => number.to_string(),
             Item::Refused(number, place) => format!("{number} with a place {place}"),
         })
+        .chain(counted)
         .collect();
     names.join(" ")
 }
 
-/// The items a receiver gives when it is fed pieces of at most the given size, each rest again.
-fn received(on: &dyn Interface, kind: u8, events: &[Event], widest: usize) -> Vec<Item> {
+/// What a receiver that has counted so much noise gives when it is fed pieces of at most a size, each rest again.
+fn received(on: &dyn Interface, kind: u8, count: u32, events: &[Event], widest: usize) -> Received {
     let (mut record, mut frame, mut items) = ([0; RECORD], [0; STORE], Vec::new());
     assert_eq!(on.receiver_fresh(kind, &mut record), 0);
+    record[4..HEAD].copy_from_slice(&count.to_be_bytes());
     let mut rest = events;
     while let Some(event) = rest.first() {
         if *event == Event::Mark {
@@ -76,16 +86,16 @@ fn received(on: &dyn Interface, kind: u8, events: &[Event], widest: usize) -> Ve
         }
         if fed.taken == 0 {
             // Nothing taken of a piece that is not empty: no receiver does that, and this loop must end.
-            return items;
+            break;
         }
         rest = &rest[fed.taken..];
     }
-    items
+    (items, on.receiver_noise(&record))
 }
 
 /// The body of a wire frame, by the receiver.
 pub fn body_of(on: &dyn Interface, kind: u8, wire: &str) -> Vec<u8> {
-    match &received(on, kind, &events(wire), 4096)[..] {
+    match &received(on, kind, 0, &events(wire), 4096).0[..] {
         [Item::Frame(body)] => body.clone(),
         _ => Vec::new(),
     }
@@ -439,7 +449,7 @@ fn texts(section: &mut Section) {
 
 // ---- Streams
 
-/// Kind, events, items; the places were counted by hand.
+/// Kind, events, items and noise; the places and the noise were counted by hand.
 #[rustfmt::skip]
 const STREAMS: &[(u8, &str, &str)] = &[
     (0, "7E 00 45 00 BA 7E 11 7E", "F 4@0"),
@@ -458,9 +468,9 @@ const STREAMS: &[(u8, &str, &str)] = &[
     (1, "7E 00 45 00 11 13 7D 7E", "4@3"),
     // A place is counted from the stretch's own 7E; noise, marks and other stretches are not in it
     (0, "7E 00 11 7E 00 00 11 7E", "4@1 4@2"),
-    (0, "11 7D 00 7E 00 11 7E", "4@1"),
+    (0, "11 7D 00 7E 00 11 7E", "4@1 noise 3"),
     (0, "7E 7E 7E 13 7E 7E", "4@0"),
-    (0, "7E 00 00 M 00 00 00 7E 11 7E", "9 4@0"),
+    (0, "7E 00 00 M 00 00 00 7E 11 7E", "9 4@0 noise 3"),
     (1, "7E 00 45 00 7D 5E 7D 7E 00 BA 11 7E", "3@5 4@2"),
     // Of an escape before it both bytes count
     (0, "7E 7D 5E 7D 5D 7D 31 7D 33 13 7E", "4@8"),
@@ -476,13 +486,13 @@ const STREAMS: &[(u8, &str, &str)] = &[
     // Shared and doubled 7E, noise
     (0, "7E 00 45 00 BA 7E 00 45 00 BA 7E", "F F"),
     (0, "7E 7E 7E 00 45 00 BA 7E 7E", "F"),
-    (0, "00 45 00 BA 7E 00 45 00 BA 7E", "F"),
+    (0, "00 45 00 BA 7E 00 45 00 BA 7E", "F noise 4"),
     // Marks
-    (0, "7E 00 45 M 00 BA 7E 00 45 00 BA 7E", "9 F"),
-    (0, "7E M 00 45 00 BA 7E", ""),
+    (0, "7E 00 45 M 00 BA 7E 00 45 00 BA 7E", "9 F noise 2"),
+    (0, "7E M 00 45 00 BA 7E", "noise 4"),
     (0, "7E 7D M 7E", "9"),
     (0, "7E 11 M", "9"),
-    (0, "7E 00 45 00 BA 7E M 00 45 00 BA 7E", "F"),
+    (0, "7E 00 45 00 BA 7E M 00 45 00 BA 7E", "F noise 4"),
     (0, "M M 7E M M", ""),
     // The largest sizes; a fault past them still comes first, at its place
     (0, "7E 00*260 7E", "5"),
@@ -561,25 +571,122 @@ const STREAMS: &[(u8, &str, &str)] = &[
     (1, "7E 00 D3 00 00 2C 7E", "F"),
 ];
 
-fn streams(section: &mut Section) {
-    for (kind, text, expected) in STREAMS {
-        let stream = events(text);
-        let defined = items(crate::cases::kind_of(*kind), &stream);
-        section.expect(&format!("the items of kind {kind} in {text}"), expected.to_string(), told(&defined));
-        for (name, on) in both() {
-            // The reference rebuilds a long stretch at each call, so there the longest streams go in large pieces only.
-            let long = stream.len() > 1000 && name == "reference";
-            let widths: &[usize] = if long { &[100_000, 4096] } else { &[100_000, 4096, 16, 7, 1] };
-            for widest in widths {
-                let found = received(on, *kind, &stream, *widest);
-                section.expect(&format!("{name}, kind {kind}, pieces of {widest}: {text}"), &defined, &found);
-            }
+/// A stream for a receiver that has counted so much noise: by the definitions, and by both in pieces of several sizes.
+fn stream(section: &mut Section, kind: u8, count: u32, text: &str, expected: &str) {
+    let stream = events(text);
+    let after = counted(u64::from(count) + noise(&stream));
+    let defined = (items(crate::cases::kind_of(kind), &stream), Noise { refusal: 0, count: after });
+    section.expect(&format!("kind {kind}, noise {count}, then {text}"), expected.to_string(), told(&defined));
+    for (name, on) in both() {
+        // The reference rebuilds a long stretch at each call, so there the longest streams go in large pieces only.
+        let long = stream.len() > 1000 && name == "reference";
+        let widths: &[usize] = if long { &[100_000, 4096] } else { &[100_000, 4096, 16, 7, 1] };
+        for &widest in widths {
+            let found = received(on, kind, count, &stream, widest);
+            let what = format!("{name}, kind {kind}, noise {count}, pieces of {widest}: {text}");
+            section.expect(&what, &defined, &found);
         }
     }
 }
 
-/// By docs/RECORD.md and 02 (vii), counted by hand: a record's first four bytes, the byte that its store is full of, a
-/// piece; the refusal, its place, and the four bytes after the call.
+fn streams(section: &mut Section) {
+    for (kind, text, expected) in STREAMS {
+        stream(section, *kind, 0, text, expected);
+    }
+}
+
+/// 02 (viii), counted by hand: the count of a request's receiver before the first 7E, events; items and noise.
+#[rustfmt::skip]
+const NOISES: &[(u32, &str, &str)] = &[
+    // "A delimiter isn't noise": not the first, nor one of many, nor one behind a mark
+    (0, "7E", ""),
+    (9, "7E 7E 7E", "noise 9"),
+    (0, "M 7E M 7E 7E M", ""),
+    (0, "00 7E 7E M 7E", "noise 1"),
+    // Any other byte is, whatever it would be in a stretch
+    (0, "7D 5E 7D 7D 11 13 5D 7F FE 00 FF", "noise 11"),
+    (0, "7D 7E 5E 7E", "6 noise 1"),
+    // "nor are bytes of a refused stretch": by each refusal; nor those of a frame
+    (0, "00 7E 7D 41 00 7E", "3@0 noise 1"),
+    (0, "00 7E 00 11 11 7E", "4@1 noise 1"),
+    (0, "00 7E 00*260 7E", "5 noise 1"),
+    (0, "00 7E 00 45 7E", "6 noise 1"),
+    (0, "00 7E 00 45 01 BA 7E", "7 noise 1"),
+    (0, "00 7E 00 45 00 BB 7E", "8 noise 1"),
+    (3, "00 7E 00 45 00 BA 7E", "F noise 4"),
+    // A stretch that a mark cuts off is refused too, with 9; what follows the mark is noise
+    (0, "7E 00 45 M", "9"),
+    (0, "7E 00 45 M 00", "9 noise 1"),
+    (0, "7E 7D M 5E 7E", "9 noise 1"),
+    (0, "7E 11 11 M 11 11 11", "9 noise 3"),
+    (0, "7E 00*300 M 00*300 7E", "9 noise 300"),
+    // Nor are those of a stretch that is not ended
+    (0, "00 00 7E 00 45 00 BA", "noise 2"),
+    (0, "7E 00 45 00 BA 7E 00 7D", "F"),
+    (0, "7E 00*70000", ""),
+    // A mark is no byte, and neither it nor an item sets the count back
+    (0, "M M M", ""),
+    (5, "M", "noise 5"),
+    (0, "00 M 00 M M 00 7E M 00 00", "noise 5"),
+    (5, "00 45 00 BA 7E 00 45 00 BA 7E 11 7E M 00", "F 4@0 noise 10"),
+    // "stopping at 4,294,967,295"
+    (4_294_967_293, "00", "noise 4294967294"),
+    (4_294_967_294, "00", "noise 4294967295"),
+    (4_294_967_295, "00", "noise 4294967295"),
+    (4_294_967_295, "00 00 00 00", "noise 4294967295"),
+    (4_294_967_293, "00 00 00 00", "noise 4294967295"),
+    (4_294_967_293, "00 M 00 M 00 M 00", "noise 4294967295"),
+    (4_294_967_294, "00 7E 00 45 00 BA 7E M 00 7E", "F noise 4294967295"),
+    (4_294_967_295, "7E 00 M 00 M", "9 noise 4294967295"),
+    (4_294_967_000, "00*294", "noise 4294967294"),
+    (4_294_967_000, "00*295", "noise 4294967295"),
+    (4_294_967_000, "00*296", "noise 4294967295"),
+    (4_294_897_295, "00*69999 7E", "noise 4294967294"),
+    (4_294_897_295, "00*70000 7E", "noise 4294967295"),
+    (4_294_897_295, "00*70001 7E", "noise 4294967295"),
+    // Runs past 65,535, and counts at which another byte of the record changes
+    (0, "00*65535 7E", "noise 65535"),
+    (0, "00*65536 7E", "noise 65536"),
+    (0, "00*70000 7E 00*70000 7E", "5 noise 70000"),
+    (0, "00*70000 M 00*70000 7E", "noise 140000"),
+    (255, "00", "noise 256"),
+    (65_535, "00", "noise 65536"),
+    (16_777_214, "00 00 00", "noise 16777217"),
+    (2_147_483_647, "00", "noise 2147483648"),
+];
+
+fn noises(section: &mut Section) {
+    for (count, text, expected) in NOISES {
+        stream(section, 0, *count, text, expected);
+    }
+    for (name, on) in both() {
+        // "old records are not carried over": those had 264 bytes.
+        for size in [0, 4, 8, 260, 264, 267] {
+            let (mut record, mut frame) = (vec![0; size], [0; STORE]);
+            let what = format!("{name}, a record of {size} bytes");
+            section.expect(&what, Fed { refusal: 2, ..Fed::default() }, on.feed(&mut record, &[0], &mut frame));
+            section.expect(&what, 2, on.silence(&mut record));
+            section.expect(&what, Noise { refusal: 2, count: 0 }, on.receiver_noise(&record));
+            section.expect(&what, 1, on.receiver_fresh(1, &mut record));
+            section.expect(&format!("{what}, after it"), vec![0; size], record);
+        }
+        // A fresh receiver has counted nothing, whatever stood there.
+        let mut record = [0xFF; RECORD];
+        section.expect(&format!("{name}, fresh"), 0, on.receiver_fresh(1, &mut record));
+        section.expect(&format!("{name}, fresh"), hex("01 00*267"), record.to_vec());
+        section.expect(&format!("{name}, fresh"), Noise { refusal: 0, count: 0 }, on.receiver_noise(&record));
+        // With refusal 1 nothing is taken, and so nothing is counted.
+        let (fives, mut frame) = (hex("00 00 00 00 00 00 00 05 00*260"), [0; STORE - 1]);
+        record.copy_from_slice(&fives);
+        let fed = on.feed(&mut record, &[0, 0, 0], &mut frame);
+        section.expect(&format!("{name}, short room"), Fed { refusal: 1, ..Fed::default() }, fed);
+        section.expect(&format!("{name}, short room"), fives, record.to_vec());
+        section.expect(&format!("{name}, short room"), Noise { refusal: 0, count: 5 }, on.receiver_noise(&record));
+    }
+}
+
+/// By docs/RECORD.md, 02 (vii) and 02 (viii), counted by hand: the first bytes of a record, its count of noise 0 where
+/// they are four, the byte that its store is full of, a piece; the refusal, its place, and these bytes after the call.
 #[rustfmt::skip]
 const RECORDS: &[(&str, u8, &str, u8, u16, &str)] = &[
     // Nothing stored, one byte, and one that was received as two
@@ -636,20 +743,41 @@ const RECORDS: &[(&str, u8, &str, u8, u16, &str)] = &[
     ("01 00 FF FF", 0x00, "7E", 2, 0, "01 00 FF FF"),
     ("02 01 00 01", 0x00, "11 7E", 2, 0, "02 01 00 01"),
     ("00 05 00 01", 0x00, "11 7E", 2, 0, "00 05 00 01"),
-    ("00 00 00 00", 0x00, "11 7D 7E", 0, 0, "00 01 00 00"),
+    // The count of noise, its highest byte first; none in a stretch, and none with refusal 2
+    ("00 00 00 00", 0x00, "11 7D 7E", 0, 0, "00 01 00 00 00 00 00 02"),
+    ("01 00 00 00 01 02 03 04", 0x55, "00", 0, 0, "01 00 00 00 01 02 03 05"),
+    ("01 00 00 00 01 02 03 FE", 0x55, "00 11 13 7E 00", 0, 0, "01 01 00 01 01 02 04 01"),
+    ("00 00 00 00 00 FF FF FF", 0x00, "00", 0, 0, "00 00 00 00 01 00 00 00"),
+    ("00 00 00 00 FF FF FF FD", 0x00, "00", 0, 0, "00 00 00 00 FF FF FF FE"),
+    ("00 00 00 00 FF FF FF FE", 0x00, "00 00 7E 00", 0, 0, "00 01 00 01 FF FF FF FF"),
+    ("00 00 00 00 FF FF FF FF", 0x00, "00", 0, 0, "00 00 00 00 FF FF FF FF"),
+    ("00 01 00 01 01 02 03 04", 0x00, "11 00 7E", 4, 1, "00 01 00 00 01 02 03 04"),
+    ("00 02 00 01 FF FF FF FF", 0x00, "7E", 3, 1, "00 01 00 00 FF FF FF FF"),
+    ("00 00 00 01 01 02 03 04", 0x00, "00 00", 2, 0, "00 00 00 01 01 02 03 04"),
+    ("02 00 00 00 01 02 03 04", 0x00, "00 00", 2, 0, "02 00 00 00 01 02 03 04"),
+    ("00 05 00 00 FF FF FF FF", 0x00, "00 00", 2, 0, "00 05 00 00 FF FF FF FF"),
 ];
 
 fn records(section: &mut Section) {
+    let head = |text: &str| {
+        let mut bytes = hex(text);
+        bytes.resize(HEAD, 0);
+        bytes
+    };
     for (before, stored, piece, refusal, place, after) in RECORDS {
         for (name, on) in both() {
             let (mut record, piece_bytes, mut frame) = ([*stored; RECORD], hex(piece), [0; STORE]);
-            record[..4].copy_from_slice(&hex(before));
+            record[..HEAD].copy_from_slice(&head(before));
             let fed = on.feed(&mut record, &piece_bytes, &mut frame);
             let taken = if *refusal == 2 { 0 } else { piece_bytes.len() };
             let expected = Fed { refusal: *refusal, place: *place, frame_length: 0, taken };
             let what = format!("{name}, a record {before} with {stored:02X} stored, fed {piece}");
             section.expect(&what, expected, fed);
-            section.expect(&format!("{what}, after it"), hex(after), record[..4].to_vec());
+            section.expect(&format!("{what}, after it"), head(after), record[..HEAD].to_vec());
+            let count = head(after)[4..].iter().fold(0, |so_far, &byte| so_far * 256 + u32::from(byte));
+            let good = Noise { refusal: 0, count };
+            let expected = if *refusal == 2 { Noise { refusal: 2, count: 0 } } else { good };
+            section.expect(&format!("{what}, its noise"), expected, on.receiver_noise(&record));
         }
     }
 }
@@ -882,6 +1010,7 @@ pub fn run(report: &mut Report) {
     report.section("vectors: validities", validities);
     report.section("vectors: texts and orders", texts);
     report.section("vectors: streams", streams);
+    report.section("vectors: noise", noises);
     report.section("vectors: records", records);
     report.section("vectors: checksum and CRC", sums);
     report.section("vectors: words", words);
