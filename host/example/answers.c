@@ -27,7 +27,7 @@ void print_failure(struct answer answer)
     else if (is_silent(answer))
         (void)printf("no answer (%s)", answer.ending == SILENT
                      ? "check the controller's power, address and baud rate"
-                     : "only noise: check the cable, its 120 ohm terminations and the baud rate");
+                     : "only noise or a lone 7E: check the cable, its 120 ohm terminations and the baud rate");
     else if (reply.refusal == MFC_REFUSAL_DEVICE_ERROR)
         (void)printf("refused %u (controller reports error %u, %s: %s)", reply.refusal, reply.code, code_words(reply.code),
                      code_advice(reply.code));

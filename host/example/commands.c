@@ -191,6 +191,33 @@ static void frames_by_hand(void)
     expect_code(to_all, sizeof to_all, 0, "an unknown command for all is not answered");
 }
 
+static void expect_noise(uint32_t count, const char *words)
+{
+    char text[128];
+
+    noise_words(count, text, sizeof text);
+    check(strcmp(text, words) == 0, words, text);
+}
+
+/* No line brings as much as the limit in a test: it is laid into the record here, the highest byte first. */
+static void noise(void)
+{
+    check(line_noise(&line) == 0, "a good line", "noise is counted");
+    memset(line.record + 4, 0xFF, 4);
+    check(line_noise(&line) == 4294967295u, "noise at its limit", "another count");
+    expect(AT, MFC_REQUEST_GET_ADDRESS, 0, MFC_REPLY_ADDRESS, AT, "address after much noise");
+    line.record[1] = 5;
+    check(line_noise(&line) == 0, "noise of a spoilt record", "a count");
+    expect_refusal(AT, MFC_REQUEST_GET_ADDRESS, 0, MFC_REFUSAL_BAD_RECORD, "address with a spoilt record");
+    expect(AT, MFC_REQUEST_GET_ADDRESS, 0, MFC_REPLY_ADDRESS, AT, "address after a spoilt record");
+    check(line_noise(&line) == 0, "noise after a spoilt record", "it does not begin again");
+    expect_noise(0, "no noise since the start");
+    expect_noise(1, "1 byte of noise since the start: swap the transceiver or check the terminations");
+    expect_noise(312, "312 bytes of noise since the start: swap the transceiver or check the terminations");
+    expect_noise(4294967294u, "4294967294 bytes of noise since the start: swap the transceiver or check the terminations");
+    expect_noise(4294967295u, "4294967295 or more bytes of noise since the start: swap the transceiver or check the terminations");
+}
+
 int main(int argc, char **argv)
 {
     const char *fault = argc == 2 ? line_open(&line, argv[1], TIMEOUT_MS) : "give the rack's terminal as the one argument";
@@ -208,6 +235,7 @@ int main(int argc, char **argv)
     broadcasts();
     refused_before_sending();
     frames_by_hand();
+    noise();
     line_close(&line);
     (void)printf("commands: %u checks, %u wrong\n", checks, wrong);
     return wrong != 0;

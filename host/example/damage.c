@@ -92,7 +92,17 @@ void put_over(const struct damage *damage, uint8_t *bytes, size_t n, unsigned *s
     ++*struck;
 }
 
-size_t add_noise(struct damage *damage, uint8_t *bytes, size_t n)
+/* Bytes that mean something inside a frame, and others, but no 7E: before an answer each of them is noise. */
+static size_t add_before(const struct damage *damage, uint8_t *bytes, size_t n)
+{
+    static const uint8_t known[MOST_NOISE] = { 0x00, 0x7D, 0x5E, 0x11, 0x13, 0xFF, 0x7F, 0x7D };
+
+    memmove(bytes + damage->before, bytes, n);
+    memcpy(bytes, known, damage->before);
+    return n + damage->before;
+}
+
+static size_t add_random(struct damage *damage, uint8_t *bytes, size_t n)
 {
     size_t count = 1 + random_under(damage, MOST_NOISE);
     size_t place = random_under(damage, (uint32_t)n + 1);
@@ -101,4 +111,9 @@ size_t add_noise(struct damage *damage, uint8_t *bytes, size_t n)
     for (size_t i = 0; i < count; i++)
         bytes[place + i] = (uint8_t)random_under(damage, 256);
     return n + count;
+}
+
+size_t add_noise(struct damage *damage, uint8_t *bytes, size_t n)
+{
+    return damage->before > 0 ? add_before(damage, bytes, n) : add_random(damage, bytes, n);
 }

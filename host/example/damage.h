@@ -16,6 +16,7 @@ struct rate {
 struct damage {
     struct rate drop, flip;                          /* for each byte */
     struct rate noise, cut, pause, late, held, wrong; /* for each answer */
+    size_t before;                                   /* the bytes of each noise, known ones before the answer; 0 for random noise */
     size_t put_at;                                   /* the byte of every answer that becomes another; 0, the opening 7E, for none */
     uint8_t put_byte;                                /* that other */
     uint64_t state;                                  /* of the random numbers */
@@ -41,7 +42,8 @@ size_t pass_over(struct damage *damage, const uint8_t *bytes, size_t n, uint8_t 
 /* Puts the one byte into an answer of n bytes, if it is so long, and raises `*struck` where that changes it. */
 void put_over(const struct damage *damage, uint8_t *bytes, size_t n, unsigned *struck);
 
-/* Puts 1 to 8 random bytes before, inside or behind n bytes in a buffer with 8 more of room. Returns the new length. */
+/* Puts 1 to 8 random bytes before, inside or behind n bytes in a buffer with 8 more of room, or known ones before them. Returns the new
+   length. */
 size_t add_noise(struct damage *damage, uint8_t *bytes, size_t n);
 
 #define MOST_NOISE 8

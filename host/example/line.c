@@ -313,7 +313,7 @@ static struct answer listen_for(struct line *line, uint8_t address, uint8_t requ
         if (heard == GONE)
             return ended(LINE_GONE, 0);
         if (refusal == MFC_REFUSAL_NO_ROOM || refusal == MFC_REFUSAL_BAD_RECORD) {
-            /* Only a fault of this program spoils the record. The next question gets a good one. */
+            /* Only a fault of this program spoils the record. The next question gets a good one, which counts noise from 0. */
             (void)mfc_receiver_fresh(MFC_KIND_REPLY, line->record, sizeof line->record);
             return ended(REFUSED, refusal);
         }
@@ -347,4 +347,10 @@ struct answer line_ask(struct line *line, uint8_t address, uint8_t request, uint
     if (!line_send(line, out, written.length))
         return ended(LINE_GONE, 0);
     return listen_for(line, address, request, value);
+}
+
+uint32_t line_noise(const struct line *line)
+{
+    /* Only a spoilt record is refused, and its count is 0. */
+    return mfc_receiver_noise(line->record, sizeof line->record).count;
 }

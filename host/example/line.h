@@ -26,7 +26,7 @@ enum ending {
     ANSWERED,                    /* `reply` is the answer */
     REFUSED,                     /* `reply.refusal` says why, with a device error `reply.code`, with 3 and 4 `place` where */
     SILENT,                      /* nothing arrived */
-    NOISE,                       /* bytes arrived, but no start of a frame among them */
+    NOISE,                       /* bytes arrived, but none of a frame: noise, or a 7E with nothing behind it */
     LINE_GONE                    /* hang-up, unplugged, or an error in errno */
 };
 
@@ -56,6 +56,11 @@ int line_send(struct line *line, const uint8_t *bytes, size_t n);
 /* Waits for the next item, taking bytes as needed. `*refusal` is 0 with a frame, whose length is returned; the refusal's
    number with length 0; and 0 with length 0 where the line fell silent or is gone. */
 size_t line_next(struct line *line, uint8_t *refusal);
+
+/* The bytes that the receiver threw away as noise since the line was opened, 4,294,967,295 for more too. Stray bytes are not among
+   them, since the receiver does not get those; nor is, on a two-wire line that echoes, what comes behind the echo's 7E. If a fault of
+   this program spoils the receiver's record, the count is lost with it and begins at 0 again. */
+uint32_t line_noise(const struct line *line);
 
 void line_close(struct line *line);
 

@@ -36,6 +36,7 @@ static const char help[] =
     "  --drop RATE     lose a byte of an answer\n"
     "  --flip RATE     flip a bit of a byte of an answer\n"
     "  --noise RATE    put random bytes before, inside or behind an answer\n"
+    "  --before N      let --noise put N bytes, none of them 7E, before an answer and not random ones (1 to 8)\n"
     "  --cut RATE      fall silent inside an answer\n"
     "  --pause RATE    fall silent inside an answer and send the rest late\n"
     "  --late RATE     send an answer late\n"
@@ -574,7 +575,7 @@ static int read_options(struct rack *rack, int argc, char **argv)
     for (int i = 1; i < argc; i++) {
         const char *option = argv[i];
         struct rate *rate = rate_of(&rack->damage, option);
-        long seed;
+        long seed, before;
         int good;
 
         if (rate != NULL) {
@@ -583,6 +584,9 @@ static int read_options(struct rack *rack, int argc, char **argv)
             good = rack->damage_requests = 1;
         } else if (strcmp(option, "--echo") == 0) {
             good = rack->echo = 1;
+        } else if (strcmp(option, "--before") == 0) {
+            good = read_number(argv[++i], 1, MOST_NOISE, &before);
+            rack->damage.before = good ? (size_t)before : 0;
         } else if (strcmp(option, "--put") == 0) {
             good = read_put(argv[++i], &rack->damage);
         } else if (strcmp(option, "--fill") == 0) {

@@ -1,5 +1,6 @@
 /* supervise: polls a rack of mass flow controllers, and the sensors of an I2C bus beside it, and prints one line for each; takes
- * orders from a console, and shows the handover board after each round. What crosses the serial line it keeps in a log.
+ * orders from a console, and shows the handover board after each round. It says how much noise the serial line brought, and keeps what
+ * crosses that line in a log.
  *
  * It uses no heap: all it holds is static, and stdout gets a buffer of its own. */
 #define _POSIX_C_SOURCE 200809L
@@ -10,6 +11,7 @@
 #include "log.h"
 #include "orders.h"
 #include "sensors.h"
+#include "words.h"
 
 #include <errno.h>
 #include <signal.h>
@@ -29,7 +31,9 @@ enum { ALL_WELL = 0, SOME_REFUSED = 1, USAGE = 2, NO_LINE = 3 };
 static const char help[] =
     "usage: supervise [--rounds N] [--every S] [--timeout MS] [--board RATE] [--console] [--log FILE] [--show] DEVICE\n"
     "Polls the controllers 0 to 23 on a serial line (115,200 baud, 8N1) for measured value and calibration. Shows the handover board\n"
-    "after each round: what this program forced shut or loaded until a restart, and the polls (rounds) until it is due.\n"
+    "after each round: what this program forced shut or loaded until a restart, and the polls (rounds) until it is due. Says after a\n"
+    "round that brought noise, and at the end, how many bytes of it came since the start; stray bytes, which come while no question is\n"
+    "open, are counted apart.\n"
     "  --rounds N    poll the rack N times (1 to 1000000, default 1)\n"
     "  --every S     begin a round every S seconds (0 to 3600, default 0, one round after the other)\n"
     "  --timeout MS  take the line as silent after MS without a byte (1 to 10000, default 200, the maker's limit)\n"
@@ -208,10 +212,31 @@ static int poll_rack(struct plant *plant, struct counts *counts)
     return 1;
 }
 
+/* The receiver is not given stray bytes, and they may be noise too: where there were some, `no noise` says that they are not counted. */
+static void print_noise(const struct line *line)
+{
+    uint32_t noise = line_noise(line);
+    char text[128];
+
+    noise_words(noise, text, sizeof text);
+    (void)printf("%s%s\n", text, noise == 0 && line->stray > 0 ? ", stray bytes not counted" : "");
+}
+
+/* Prints the noise where it grew over `before`. Returns how much it is. */
+static uint32_t print_growth(const struct line *line, uint32_t before)
+{
+    uint32_t noise = line_noise(line);
+
+    if (noise > before)
+        print_noise(line);
+    return noise;
+}
+
 /* A round that is broken off takes no poll from the board, and shows it all the same. Returns 0 if the line is gone. */
 static int poll_rounds(struct plant *plant, const struct options *options, struct results *results)
 {
     int64_t next = now_ms();
+    uint32_t noise = 0;
     int there = 1;
 
     for (long round = 0; round < options->rounds && there && !stop; round++) {
@@ -224,6 +249,7 @@ static int poll_rounds(struct plant *plant, const struct options *options, struc
             handover_poll();
             console_round();
         }
+        noise = print_growth(&plant->line, noise);
         handover_print();
         log_save();
     }
@@ -314,6 +340,8 @@ int main(int argc, char **argv)
     there = poll_rounds(&plant, &options, &results);
     handover_end();
     log_end();
+    /* Of a line that is gone too: it may say why. */
+    print_noise(&plant.line);
     if (there)
         print_results(&plant, &results);
     (void)fflush(stdout);

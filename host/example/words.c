@@ -109,3 +109,12 @@ void thousandths_words(int32_t thousandths, char *text, size_t room)
 
     (void)snprintf(text, room, "%s%ld.%03ld", thousandths < 0 ? "-" : "", size / 1000, size % 1000);
 }
+
+void noise_words(uint32_t count, char *text, size_t room)
+{
+    if (count == 0)
+        (void)snprintf(text, room, "no noise since the start");
+    else
+        (void)snprintf(text, room, "%lu%s %s of noise since the start: swap the transceiver or check the terminations",
+                       (unsigned long)count, count == UINT32_MAX ? " or more" : "", count == 1 ? "byte" : "bytes");
+}

@@ -19,6 +19,9 @@ void reading_words(uint32_t bits, char *text, size_t room);
 /* A number of thousandths, in words: 1250 is 1.250, -7 is -0.007. */
 void thousandths_words(int32_t thousandths, char *text, size_t room);
 
+/* A receiver's count of noise, in words, and what to do. */
+void noise_words(uint32_t count, char *text, size_t room);
+
 /* A float's bits, and the float of some bits. */
 uint32_t bits_of(float value);
 float float_of(uint32_t bits);
