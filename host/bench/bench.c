@@ -26,7 +26,7 @@
 #define LONGEST 600              /* room for any frame */
 #define MOST_PLACE 200000        /* of a fault */
 
-static uint8_t polling[TRAFFIC], escapes[TRAFFIC], damaged[TRAFFIC], broken[TRAFFIC], any_bytes[TRAFFIC];
+static uint8_t polling[TRAFFIC], escapes[TRAFFIC], damaged[TRAFFIC], broken[TRAFFIC], noise[TRAFFIC], any_bytes[TRAFFIC];
 static size_t polling_n, escapes_n, damaged_n, broken_n;
 static struct poll polls[POLLS];
 static uint8_t letters[255], specials[254];   /* 255 letters are one too many */
@@ -225,6 +225,13 @@ static void compare_fresh(uint8_t kind)
     plain_fresh(&receiver, kind);
 }
 
+static void compare_noise(void)
+{
+    mfc_noise told = mfc_receiver_noise(record, sizeof record);
+
+    compare(told.refusal == 0 && told.count == receiver.noise, "noise");
+}
+
 /* One call of each. Where they take different numbers of bytes, 0 is answered as taken. */
 static struct plain_fed compare_feed(const uint8_t *piece, size_t n)
 {
@@ -232,14 +239,19 @@ static struct plain_fed compare_feed(const uint8_t *piece, size_t n)
 
     compare(fed.taken == plain.taken && fed.refusal == plain.refusal && fed.place == plain.place
             && fed.frame_length == plain.frame_length && memcmp(frame, plain_frame, fed.frame_length) == 0, "feed");
+    compare_noise();
     if (fed.taken != plain.taken)
         plain.taken = 0;
     return plain;
 }
 
-static void compare_feeds(uint8_t kind, const uint8_t *bytes, size_t n, size_t piece)
+/* From a fresh receiver that has counted so much noise. */
+static void compare_feeds_from(uint32_t count, uint8_t kind, const uint8_t *bytes, size_t n, size_t piece)
 {
     compare_fresh(kind);
+    for (unsigned i = 0; i < 4; i++)
+        record[4 + i] = (uint8_t)(count >> (24 - 8 * i));
+    receiver.noise = count;
     for (size_t at = 0; at < n;) {
         size_t taken = compare_feed(bytes + at, smaller(piece, n - at)).taken;
 
@@ -249,7 +261,13 @@ static void compare_feeds(uint8_t kind, const uint8_t *bytes, size_t n, size_t p
         /* A silence now and then, at another place each time. */
         if (at % 997 < piece && at % 5 == 0)
             compare(mfc_silence(record, sizeof record) == plain_silence(&receiver), "silence");
+        compare_noise();
     }
+}
+
+static void compare_feeds(uint8_t kind, const uint8_t *bytes, size_t n, size_t piece)
+{
+    compare_feeds_from(0, kind, bytes, n, piece);
 }
 
 /* One stretch with one fault, without a silence in it: its place is known. */
@@ -424,6 +442,9 @@ static void compare_all(void)
             compare_feeds(kind, damaged, damaged_n, pieces[p]);
             compare_feeds(kind, broken, broken_n, pieces[p]);
             compare_feeds(kind, any_bytes, sizeof any_bytes, pieces[p]);
+            compare_feeds(kind, noise, sizeof noise, pieces[p]);
+            compare_feeds_from(UINT32_MAX - TRAFFIC / 2, kind, noise, sizeof noise, pieces[p]);
+            compare_feeds_from(UINT32_MAX - 1000, kind, any_bytes, sizeof any_bytes, pieces[p]);
         }
     for (size_t p = 0; p < sizeof pieces / sizeof pieces[0]; p++)
         compare_places(pieces[p]);
@@ -540,6 +561,8 @@ static void measure_all(void)
     measure_feed("receive traffic full of escapes, pieces of 1", escapes, escapes_n, 1, feed_plain);
     measure_feed("receive traffic full of escapes, pieces of 16", escapes, escapes_n, 16, feed_plain);
     measure_feed("receive traffic full of escapes, pieces of 4,096", escapes, escapes_n, 4096, feed_plain);
+    measure_feed("receive noise, pieces of 1", noise, sizeof noise, 1, feed_plain);
+    measure_feed("receive noise, pieces of 4,096", noise, sizeof noise, 4096, feed_plain);
     measure_feed("  C without tests or copy, polling, pieces of 1", polling, polling_n, 1, feed_own);
     measure_feed("  C without tests or copy, polling, pieces of 16", polling, polling_n, 16, feed_own);
     measure_feed("  C without tests or copy, polling, 4,096", polling, polling_n, 4096, feed_own);
@@ -646,6 +669,7 @@ static void use_feed(void)
 }
 
 static void use_silence(void) { sink = mfc_silence(record, sizeof record); }
+static void use_noise(void) { sink = mfc_receiver_noise(record, sizeof record).count; }
 
 static void use_read_words(void)
 {
@@ -681,7 +705,8 @@ static void print_stacks(void)
         { "mfc_checksum", use_checksum }, { "mfc_crc", use_crc }, { "mfc_write_request", use_write_request },
         { "mfc_write_request_at", use_write_request_at }, { "mfc_read_request", use_read_request },
         { "mfc_write_reply", use_write_reply }, { "mfc_read_reply", use_read_reply }, { "mfc_receiver_fresh", use_fresh },
-        { "mfc_feed", use_feed }, { "mfc_silence", use_silence }, { "mfc_read_words", use_read_words },
+        { "mfc_feed", use_feed }, { "mfc_silence", use_silence }, { "mfc_receiver_noise", use_noise },
+        { "mfc_read_words", use_read_words },
         { "mfc_write_words", use_write_words }, { "mfc_write_sfc6", use_write_sfc6 }, { "mfc_write_liquid", use_write_liquid },
         { "mfc_edit_user", use_edit_user }, { "mfc_edit_advanced", use_edit_advanced }, { "mfc_scaled", use_scaled },
         { "mfc_scaled_float", use_scaled_float }, { "mfc_board_open", use_board_open }, { "mfc_board_close", use_board_close },
@@ -718,6 +743,7 @@ int main(int argc, char **argv)
     lay_boards();
     lay_logs();
     broken_n = broken_traffic(broken, sizeof broken);
+    noise_bytes(noise, sizeof noise);
     for (size_t i = 0; i < sizeof letters; i++)
         letters[i] = (uint8_t)('A' + i % 26);
     for (size_t i = 0; i < sizeof specials; i++)

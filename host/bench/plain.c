@@ -64,13 +64,25 @@ static struct item close_stretch(struct plain_receiver *receiver, unsigned mode,
     return item;
 }
 
-static inline struct plain_fed feed(struct plain_receiver *receiver, const uint8_t *piece, size_t n)
+/* Passes over noise: the bytes before the first 7E. */
+static size_t skip_noise(struct plain_receiver *receiver, const uint8_t *piece, size_t n)
+{
+    size_t at = 0;
+
+    while (at < n && piece[at] != DELIMITER)
+        at++;
+    receiver->noise = at < UINT32_MAX - receiver->noise ? receiver->noise + (uint32_t)at : UINT32_MAX;
+    return at;
+}
+
+/* gcc must put this into both of its callers: else the answer comes back through memory, and a piece of one byte takes twice the time. */
+static inline __attribute__((always_inline)) struct plain_fed feed(struct plain_receiver *receiver, const uint8_t *piece, size_t n)
 {
     struct plain_fed fed = { 0, 0, 0, 0 };
     unsigned mode = receiver->mode;
     unsigned length = receiver->length;
     uint8_t sum = receiver->sum;
-    size_t at = 0;
+    size_t at = mode == OUTSIDE ? skip_noise(receiver, piece, n) : 0;
 
     while (at < n) {
         uint8_t byte = piece[at++];

@@ -12,6 +12,7 @@ struct plain_receiver {
     uint8_t sum;                 /* of the body so far */
     uint16_t length;             /* of the body so far, stopping at 65,535 */
     uint16_t escapes;            /* among these bytes; any number where the length has stopped */
+    uint32_t noise;              /* bytes thrown away, stopping at 4,294,967,295 */
     uint8_t store[260];
 };
 

@@ -164,6 +164,14 @@ void random_bytes(uint8_t *out, size_t n)
         out[i] = (uint8_t)next_random();
 }
 
+void noise_bytes(uint8_t *out, size_t n)
+{
+    random_bytes(out, n);
+    for (size_t i = 0; i < n; i++)
+        if (out[i] == 0x7E)
+            out[i] = 0x7D;
+}
+
 void good_words(uint8_t start, uint8_t *out, size_t words)
 {
     for (size_t i = 0; i < words; i++) {

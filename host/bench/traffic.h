@@ -44,8 +44,9 @@ size_t broken_traffic(uint8_t *out, size_t room);
    them. */
 uint32_t any(uint32_t n);
 
-/* Random bytes, and words of 3 bytes with good CRCs. */
+/* Random bytes, such bytes without a 7E, and words of 3 bytes with good CRCs. */
 void random_bytes(uint8_t *out, size_t n);
+void noise_bytes(uint8_t *out, size_t n);
 void good_words(uint8_t start, uint8_t *out, size_t words);
 
 #endif
