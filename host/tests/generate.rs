@@ -442,7 +442,7 @@ pub fn noisy(random: &mut Random, parts: usize, longest: usize) -> (Vec<Event>, 
     (events, noise)
 }
 
-/// The counts of noise at which another byte of the record changes, and the limit.
+/// Counts of noise at which a byte or the highest bit of the count changes, 0, and the limit.
 pub const COUNT_EDGES: [u32; 6] = [0, 1 << 8, 1 << 16, 1 << 24, 1 << 31, u32::MAX];
 
 /// A count of noise: around 0 or another edge, often near the limit, or any.

@@ -644,7 +644,7 @@ const NOISES: &[(u32, &str, &str)] = &[
     (4_294_897_295, "00*69999 7E", "noise 4294967294"),
     (4_294_897_295, "00*70000 7E", "noise 4294967295"),
     (4_294_897_295, "00*70001 7E", "noise 4294967295"),
-    // Runs past 65,535, and counts at which another byte of the record changes
+    // Runs past 65,535, and counts at which a byte or the highest bit of the count changes
     (0, "00*65535 7E", "noise 65535"),
     (0, "00*65536 7E", "noise 65536"),
     (0, "00*70000 7E 00*70000 7E", "5 noise 70000"),

@@ -137,7 +137,7 @@ module _ (lent : List ℕ) (byte : (i : ℕ) → getD lent i 0 < 256) (r : Recor
           ap (λ (o : Outcome). (refusalIn (o .result .said), overlay lent 0 (bytesOf (o .leaves)))) (silence-range r h)
           ∙ ap (λ (l : List ℕ). (2, l)) back
 
--- the returns of the two calls
+-- the returns of the three calls on a record
 module _ (lent : List ℕ) {l : Loaded} (e : paperLoaded l (storeIn lent) ≡ fieldsIn lent) where
   -- a call that leaves the kind leaves the first byte
   kind-stays : {r : Receiver} {kind : Kind} → l ≡ loaded.Held r → kind ≡ r .kind → numberOfKind kind ≡ getD lent 0 0

@@ -1,5 +1,5 @@
 -- The C interface, every series of calls with one receiver: demand 3 over the record's bytes.
-use Prim.Native.Nat.{ℕ, _≤_}
+use Prim.Native.Nat.{ℕ, _≤_, min}
 use mathlib.Core.Path.{_≡_}
 use mathlib.Core.Bool.{cond}
 use mathlib.Core.List.{List, [], _∷_, _++_, map}
@@ -8,7 +8,7 @@ use lib.ListN.{length, take, drop}
 use Rattle.refusal.specs.Refusals.{Numbered, number, _carrying_, isPlaced, served, refused}
 use Rattle.shdlc.specs.declared.Kind.{Kind}
 use Rattle.shdlc.specs.Stream.{Item, items, noise}
-use Rattle.receiver.specs.Record.{Record, limited, fresh, recordOf}
+use Rattle.receiver.specs.Record.{Record, fresh, recordOf}
 use Rattle.receiver.specs.Calls.{Result}
 use Rattle.receiver.specs.Series.{Call, feeding, silence, streamOf, expectedFrom}
 use Rattle.mfc.specs.declared.answers.MfcFed.{MfcFed}
@@ -80,7 +80,7 @@ pub record SeriesOverBytes (kind : Kind) : Type 0 where
       → bytesAfter (begun kind lent) calls ≡ laidIn lent (recordOf kind (streamOf kind calls))
   -- 02 (viii): the count that C is then told is "the stream's noise bytes, or that limit if they are more"
   pub noise-count : (lent : List ℕ) → recordSize ≤ length lent → (calls : List Call)
-      → noiseRecord (bytesAfter (begun kind lent) calls) ≡ record { refusal = 0; count = limited (noise (streamOf kind calls)) }
+      → noiseRecord (bytesAfter (begun kind lent) calls) ≡ record { refusal = 0; count = min (noise (streamOf kind calls)) 4294967295 }
   -- two series with the same stream end in the same 268 bytes, whatever was lent for each
   pub one-record : (lent other : List ℕ) → recordSize ≤ length lent → recordSize ≤ length other → (calls others : List Call)
       → streamOf kind calls ≡ streamOf kind others

@@ -258,6 +258,7 @@ pub extern "C" fn mfc_feed(record: &mut [u8], piece: &[u8], frame: &mut [u8]) ->
     let next = f.receiver;
     let taken = f.taken;
     let answer = f.answer;
+    // The answer first: behind the test of the count the compiler would ask once more which one it is.
     let told = of_answer(answer, taken);
     put_after(record, before, next);
     told

@@ -16,7 +16,7 @@ use Rattle.receiver.specs.declared.Mode.the-variants.{Outside, Plain, Es
 use Rattle.receiver.specs.Record.{Record, fresh, Act, Store, Become, Discard, limited, unescape, actOf, pushed, acted, opened, nextByte, nextRecord, recordFrom, recordOf}
 use Rattle.receiver.proofs.Simulation.{progress, start, Inside, inside-mode, At, at-next, at-fresh}
 
--- a byte inside a stretch is no noise
+-- an act adds so many to the count, up to the limit
 abbrev Counted : Act → ℕ → Type 0
 Counted a k = (r : Record) (n : ℕ) → r .noise ≡ limited n → acted r a .noise ≡ limited (n + k)
 

@@ -1,4 +1,4 @@
--- The receiver's record, the models of its two calls, and what every series of calls gives.
+-- The receiver's record, what its calls give, and what every series of calls gives.
 pub mod Record
 pub mod Calls
 pub mod Series

@@ -1,6 +1,6 @@
 -- 01, What a stream means, demand 3: one claim over every series of calls with one receiver. To be believed is what a series is and what
 -- it must give, up to `expectedFrom`; what follows is what the calls do give, and the claim.
-use Prim.Native.Nat.{ℕ, _≤_}
+use Prim.Native.Nat.{ℕ, _≤_, min}
 use mathlib.Core.Path.{_≡_}
 use mathlib.Core.Bool.{Bool, true, false, cond}
 use mathlib.Core.List.{List, [], _∷_, _++_, map}
@@ -9,7 +9,7 @@ use lib.ListN.{length, take, drop}
 use Rattle.refusal.specs.Refusals.{Numbered, number, _carrying_, served, refused}
 use Rattle.shdlc.specs.declared.Kind.{Kind}
 use Rattle.shdlc.specs.Stream.{Event, byte, mark, Item, items, noise}
-use Rattle.receiver.specs.Record.{Record, inRange, fresh, limited, recordOf}
+use Rattle.receiver.specs.Record.{Record, inRange, fresh, recordOf}
 use Rattle.receiver.specs.Calls.{Said, nothing, gave, Result, Outcome, saidOf, bufferOf, feedOf, silenceOf}
 
 -- "A series is feeding calls and silence marks": a piece with the lent frame buffer, or a mark
@@ -109,7 +109,7 @@ pub record Demand3 (kind : Kind) : Type 0 where
   -- the record at the end is a function of the stream
   pub end-record : (calls : List Call) → recordAfter (fresh kind) calls ≡ recordOf kind (streamOf kind calls)
   -- 02 (viii), "the one end record of demand 3 now includes this count: the stream's noise bytes, or that limit if they are more"
-  pub noise-count : (calls : List Call) → recordAfter (fresh kind) calls .noise ≡ limited (noise (streamOf kind calls))
+  pub noise-count : (calls : List Call) → recordAfter (fresh kind) calls .noise ≡ min (noise (streamOf kind calls)) 4294967295
   -- two series with the same stream end in one and the same record
   pub one-record : (calls others : List Call) → streamOf kind calls ≡ streamOf kind others
       → recordAfter (fresh kind) calls ≡ recordAfter (fresh kind) others

@@ -215,7 +215,7 @@ fn narrow(n: usize) -> u32
 }
 
 // The count of noise bytes with so many more; it stops at MOST_NOISE. It is made in 32 bits: as a usize the limit would be kept in a
-// register over the loop of `scan`, since the compiler makes another number of it behind that loop.
+// register over the loop of `scan`.
 fn counted(noise: usize, n: usize) -> usize
     requires { ⌜ noise < 4294967296 ⌝ }
     ensures { λ r. ⌜ r ≡ limited (noise + n) ⌝ }

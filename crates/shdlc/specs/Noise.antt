@@ -1,6 +1,6 @@
 -- 02 (viii), which bytes of a stream are noise. The proof is `noise-bytes` of proofs/Noise.antt. The three parts settle the count of every
--- stream: it has a last mark or none, and behind that a first 7E or none. A count with a delimiter in it, or with bytes of a stretch that
--- is refused, cut off or not ended, does not meet them.
+-- stream: it has a last mark or none, behind that a first 7E or none, and what precedes that mark is a shorter stream. A count with a
+-- delimiter in it, or with bytes of a stretch that is refused, cut off or not ended, does not meet them.
 use Prim.Native.Nat.{ℕ, _+_}
 use mathlib.Core.Path.{_≡_}
 use mathlib.Core.List.{List, _∷_, _++_, map}
