@@ -39,31 +39,37 @@ volatile size_t sink;
 static struct { const uint8_t *bytes; size_t n, piece; } wire;
 static uint8_t record[MFC_RECORD_SIZE], frame[MFC_FRAME_ROOM], plain_frame[MFC_FRAME_ROOM], out[LONGEST];
 static struct plain_receiver receiver;
+static size_t ends[TRAFFIC / 8], answers;   /* of the answers in the polling traffic, each of over 8 bytes */
 
 static size_t smaller(size_t a, size_t b)
 {
     return a < b ? a : b;
 }
 
-static struct plain_fed feed_library_once(const uint8_t *piece, size_t n)
-{
-    mfc_fed fed = mfc_feed(record, sizeof record, piece, n, frame, sizeof frame);
+typedef struct plain_fed feed_call(uint8_t, const uint8_t *, size_t);
 
+static inline struct plain_fed as_plain(mfc_fed fed)
+{
     return (struct plain_fed){ fed.refusal, fed.place, fed.frame_length, fed.taken };
 }
 
-static struct plain_fed feed_plain_once(const uint8_t *piece, size_t n)
+static struct plain_fed feed_library_once(uint8_t silence, const uint8_t *piece, size_t n)
 {
-    return plain_feed(&receiver, piece, n, plain_frame, sizeof plain_frame);
+    return as_plain(mfc_feed(record, sizeof record, silence, piece, n, frame, sizeof frame));
 }
 
-static struct plain_fed feed_own_once(const uint8_t *piece, size_t n)
+static struct plain_fed feed_plain_once(uint8_t silence, const uint8_t *piece, size_t n)
 {
-    return plain_feed_own(&receiver, piece, n);
+    return plain_feed(&receiver, silence, piece, n, plain_frame, sizeof plain_frame);
+}
+
+static struct plain_fed feed_own_once(uint8_t silence, const uint8_t *piece, size_t n)
+{
+    return plain_feed_own(&receiver, silence, piece, n);
 }
 
 /* The whole traffic in pieces. It is laid into each of the three below, so that the calls are direct ones. */
-static inline void feed_all(struct plain_fed (*once)(const uint8_t *, size_t))
+static inline void feed_all(feed_call *once)
 {
     size_t frames = 0;
 
@@ -72,7 +78,7 @@ static inline void feed_all(struct plain_fed (*once)(const uint8_t *, size_t))
         size_t left = smaller(wire.piece, wire.n - at);
 
         while (left > 0) {
-            struct plain_fed fed = once(piece, left);
+            struct plain_fed fed = once(0, piece, left);
 
             frames += fed.frame_length;
             piece += fed.taken;
@@ -85,6 +91,31 @@ static inline void feed_all(struct plain_fed (*once)(const uint8_t *, size_t))
 static void feed_library(void) { feed_all(feed_library_once); }
 static void feed_plain(void) { feed_all(feed_plain_once); }
 static void feed_own(void) { feed_all(feed_own_once); }
+
+/* The polling traffic, each answer in one call and after silence. */
+static inline void feed_answers(feed_call *once)
+{
+    size_t frames = 0, at = 0;
+
+    for (size_t i = 0; i < answers; i++) {
+        frames += once(1, polling + at, ends[i] - at).frame_length;
+        at = ends[i];
+    }
+    sink = frames;
+}
+
+static void answers_library(void) { feed_answers(feed_library_once); }
+static void answers_plain(void) { feed_answers(feed_plain_once); }
+
+/* An answer ends with its second 7E. */
+static void find_answers(void)
+{
+    size_t delimiters = 0;
+
+    for (size_t i = 0; i < polling_n; i++)
+        if (polling[i] == 0x7E && ++delimiters % 2 == 0)
+            ends[answers++] = i + 1;
+}
 
 /* A round's requests, each into the room left behind the one before. */
 static void requests_library(void)
@@ -232,42 +263,103 @@ static void compare_noise(void)
     compare(told.refusal == 0 && told.count == receiver.noise, "noise");
 }
 
-/* One call of each. Where they take different numbers of bytes, 0 is answered as taken. */
-static struct plain_fed compare_feed(const uint8_t *piece, size_t n)
+/* The frames have the same bytes all along: what is no body is untouched. */
+static int is_same(struct plain_fed fed, struct plain_fed plain)
 {
-    struct plain_fed fed = feed_library_once(piece, n), plain = feed_plain_once(piece, n);
+    return fed.taken == plain.taken && fed.refusal == plain.refusal && fed.place == plain.place
+        && fed.frame_length == plain.frame_length && memcmp(frame, plain_frame, sizeof frame) == 0;
+}
 
-    compare(fed.taken == plain.taken && fed.refusal == plain.refusal && fed.place == plain.place
-            && fed.frame_length == plain.frame_length && memcmp(frame, plain_frame, fed.frame_length) == 0, "feed");
+/* One call of each. Where they take different numbers of bytes, 0 is answered as taken. */
+static struct plain_fed compare_feed(uint8_t silence, const uint8_t *piece, size_t n)
+{
+    struct plain_fed fed = feed_library_once(silence, piece, n), plain = feed_plain_once(silence, piece, n);
+
+    compare(is_same(fed, plain), silence ? "feed after silence" : "feed");
     compare_noise();
     if (fed.taken != plain.taken)
         plain.taken = 0;
     return plain;
 }
 
-/* From a fresh receiver that has counted so much noise. */
-static void compare_feeds_from(uint32_t count, uint8_t kind, const uint8_t *bytes, size_t n, size_t piece)
+/* One call of each that is refused: for a room that is a byte short, a record out of its range, or both. The record stays as it is, and
+   the silence is not dealt with. */
+static void compare_refused(uint8_t silence, const uint8_t *piece, size_t n)
+{
+    uint8_t mode = record[1], plain_mode = receiver.mode, before[MFC_RECORD_SIZE];
+    unsigned wrong = 1 + any(3);
+    size_t room = sizeof frame - (wrong & 1);
+    struct plain_fed fed, plain;
+
+    if (wrong & 2)
+        record[1] = receiver.mode = 5;
+    memcpy(before, record, sizeof before);
+    fed = as_plain(mfc_feed(record, sizeof record, silence, piece, n, frame, room));
+    plain = plain_feed(&receiver, silence, piece, n, plain_frame, room);
+    compare(is_same(fed, plain) && fed.refusal == (wrong & 2 ? 2 : 1) && memcmp(record, before, sizeof before) == 0, "refused feed");
+    record[1] = mode;
+    receiver.mode = plain_mode;
+}
+
+/* Silence in one of so many calls: any number but 0. */
+static uint8_t any_silence(uint32_t calls)
+{
+    return (uint8_t)(any(calls) == 0 ? 1 + any(255) : 0);
+}
+
+/* A piece, and before some of them a refused call and an empty piece, with silence or without. Returns the bytes taken. */
+static size_t compare_piece(const uint8_t *piece, size_t n, uint32_t calls)
+{
+    struct plain_fed fed;
+
+    if (any(calls) == 0) {
+        size_t of = n * any(2);
+
+        compare_refused(any_silence(2), piece, of);
+    }
+    if (any(calls) == 0)
+        (void)compare_feed(any_silence(2), piece, 0);
+    fed = compare_feed(any_silence(calls), piece, n);
+    /* The silence cut a stretch and no byte was taken: the piece comes again without it. */
+    if (fed.refusal == 9)
+        fed = compare_feed(0, piece, n);
+    return fed.taken;
+}
+
+/* From a fresh receiver that has counted so much noise. In one of so many calls there is silence, at another place each time. */
+static void compare_feeds_from(uint32_t count, uint8_t kind, const uint8_t *bytes, size_t n, size_t piece, uint32_t calls)
 {
     compare_fresh(kind);
     for (unsigned i = 0; i < 4; i++)
         record[4 + i] = (uint8_t)(count >> (24 - 8 * i));
     receiver.noise = count;
     for (size_t at = 0; at < n;) {
-        size_t taken = compare_feed(bytes + at, smaller(piece, n - at)).taken;
+        size_t taken = compare_piece(bytes + at, smaller(piece, n - at), calls);
 
         if (taken == 0)
             return;
         at += taken;
-        /* A silence now and then, at another place each time. */
-        if (at % 997 < piece && at % 5 == 0)
-            compare(mfc_silence(record, sizeof record) == plain_silence(&receiver), "silence");
-        compare_noise();
     }
 }
 
-static void compare_feeds(uint8_t kind, const uint8_t *bytes, size_t n, size_t piece)
+static void compare_feeds(uint8_t kind, const uint8_t *bytes, size_t n, size_t piece, uint32_t calls)
 {
-    compare_feeds_from(0, kind, bytes, n, piece);
+    compare_feeds_from(0, kind, bytes, n, piece, calls);
+}
+
+/* The calls of feed_answers: each gives its frame. */
+static void compare_answers(void)
+{
+    size_t at = 0;
+
+    compare_fresh(1);
+    for (size_t i = 0; i < answers; i++) {
+        struct plain_fed fed = compare_feed(1, polling + at, ends[i] - at);
+
+        compare(fed.frame_length > 0 && fed.taken == ends[i] - at, "answer after silence");
+        at = ends[i];
+    }
+    compare(at == polling_n, "answers");
 }
 
 /* One stretch with one fault, without a silence in it: its place is known. */
@@ -279,7 +371,7 @@ static void compare_place(size_t place, size_t every, unsigned fault, size_t pie
 
     compare_fresh(1);
     for (size_t at = 0; at < n;) {
-        struct plain_fed fed = compare_feed(bytes + at, smaller(piece, n - at));
+        struct plain_fed fed = compare_feed(0, bytes + at, smaller(piece, n - at));
 
         if (fed.taken == 0)
             break;
@@ -436,16 +528,19 @@ static void compare_all(void)
     static const size_t pieces[] = { 1, 7, 16, 4096 };
 
     for (uint8_t kind = 0; kind <= 1; kind++)
-        for (size_t p = 0; p < sizeof pieces / sizeof pieces[0]; p++) {
-            compare_feeds(kind, polling, polling_n, pieces[p]);
-            compare_feeds(kind, escapes, escapes_n, pieces[p]);
-            compare_feeds(kind, damaged, damaged_n, pieces[p]);
-            compare_feeds(kind, broken, broken_n, pieces[p]);
-            compare_feeds(kind, any_bytes, sizeof any_bytes, pieces[p]);
-            compare_feeds(kind, noise, sizeof noise, pieces[p]);
-            compare_feeds_from(UINT32_MAX - TRAFFIC / 2, kind, noise, sizeof noise, pieces[p]);
-            compare_feeds_from(UINT32_MAX - 1000, kind, any_bytes, sizeof any_bytes, pieces[p]);
-        }
+        for (size_t p = 0; p < sizeof pieces / sizeof pieces[0]; p++)
+            /* With silence seldom, so that long stretches come to their end, and often. */
+            for (uint32_t calls = 1000; calls >= 10; calls /= 100) {
+                compare_feeds(kind, polling, polling_n, pieces[p], calls);
+                compare_feeds(kind, escapes, escapes_n, pieces[p], calls);
+                compare_feeds(kind, damaged, damaged_n, pieces[p], calls);
+                compare_feeds(kind, broken, broken_n, pieces[p], calls);
+                compare_feeds(kind, any_bytes, sizeof any_bytes, pieces[p], calls);
+                compare_feeds(kind, noise, sizeof noise, pieces[p], calls);
+                compare_feeds_from(UINT32_MAX - TRAFFIC / 2, kind, noise, sizeof noise, pieces[p], calls);
+                compare_feeds_from(UINT32_MAX - 1000, kind, any_bytes, sizeof any_bytes, pieces[p], calls);
+            }
+    compare_answers();
     for (size_t p = 0; p < sizeof pieces / sizeof pieces[0]; p++)
         compare_places(pieces[p]);
     for (size_t a = 0; a < sizeof addresses; a++)
@@ -535,10 +630,15 @@ void measure(const char *name, const char *unit, size_t units, void (*library)(v
     (void)fflush(stdout);
 }
 
-static void measure_feed(const char *name, const uint8_t *bytes, size_t n, size_t piece, void (*plain)(void))
+static void start_receivers(void)
 {
     (void)mfc_receiver_fresh(1, record, sizeof record);
     plain_fresh(&receiver, 1);
+}
+
+static void measure_feed(const char *name, const uint8_t *bytes, size_t n, size_t piece, void (*plain)(void))
+{
+    start_receivers();
     wire.bytes = bytes;
     wire.n = n;
     wire.piece = piece;
@@ -569,6 +669,8 @@ static void measure_all(void)
     measure_feed("  C without tests or copy, escapes, pieces of 1", escapes, escapes_n, 1, feed_own);
     measure_feed("  C without tests or copy, escapes, pieces of 16", escapes, escapes_n, 16, feed_own);
     measure_feed("  C without tests or copy, escapes, 4,096", escapes, escapes_n, 4096, feed_own);
+    start_receivers();
+    measure("receive polling traffic, each answer after silence", "byte", polling_n, answers_library, answers_plain);
     measure("write the requests of a polling round", "frame", POLLS, requests_library, requests_plain);
     measure("write set setpoint", "frame", POLLS, setpoints_library, setpoints_plain);
     text = letters;
@@ -616,7 +718,7 @@ static void lay_bodies(void)
         mfc_written written = mfc_write_request(0x11, (uint8_t)(i / VALUES), values[i % VALUES], out, sizeof out);
 
         (void)mfc_receiver_fresh(MFC_KIND_REQUEST, record, sizeof record);
-        bodies[i].length = mfc_feed(record, sizeof record, out, written.length, bodies[i].body, MFC_FRAME_ROOM).frame_length;
+        bodies[i].length = mfc_feed(record, sizeof record, 0, out, written.length, bodies[i].body, MFC_FRAME_ROOM).frame_length;
     }
 }
 
@@ -659,16 +761,17 @@ static void use_read_reply(void)
 
 static void use_fresh(void) { sink = mfc_receiver_fresh(MFC_KIND_REPLY, record, sizeof record); }
 
+/* Without silence; with it, where each stretch that is cut gives 9 first; and refused. */
 static void use_feed(void)
 {
     for (size_t at = 0; at < damaged_n;)
-        at += mfc_feed(record, sizeof record, damaged + at, damaged_n - at, frame, sizeof frame).taken;
-    for (size_t at = 0; at < escapes_n;)
-        at += mfc_feed(record, sizeof record, escapes + at, smaller(16, escapes_n - at), frame, sizeof frame).taken;
-    sink = mfc_feed(record, sizeof record, damaged, 16, frame, sizeof frame - 1).refusal;
+        at += mfc_feed(record, sizeof record, 0, damaged + at, damaged_n - at, frame, sizeof frame).taken;
+    for (uint8_t silence = 0; silence <= 1; silence++)
+        for (size_t at = 0; at < escapes_n;)
+            at += mfc_feed(record, sizeof record, silence, escapes + at, smaller(16, escapes_n - at), frame, sizeof frame).taken;
+    sink = mfc_feed(record, sizeof record, 1, damaged, 16, frame, sizeof frame - 1).refusal;
 }
 
-static void use_silence(void) { sink = mfc_silence(record, sizeof record); }
 static void use_noise(void) { sink = mfc_receiver_noise(record, sizeof record).count; }
 
 static void use_read_words(void)
@@ -705,7 +808,7 @@ static void print_stacks(void)
         { "mfc_checksum", use_checksum }, { "mfc_crc", use_crc }, { "mfc_write_request", use_write_request },
         { "mfc_write_request_at", use_write_request_at }, { "mfc_read_request", use_read_request },
         { "mfc_write_reply", use_write_reply }, { "mfc_read_reply", use_read_reply }, { "mfc_receiver_fresh", use_fresh },
-        { "mfc_feed", use_feed }, { "mfc_silence", use_silence }, { "mfc_receiver_noise", use_noise },
+        { "mfc_feed", use_feed }, { "mfc_receiver_noise", use_noise },
         { "mfc_read_words", use_read_words },
         { "mfc_write_words", use_write_words }, { "mfc_write_sfc6", use_write_sfc6 }, { "mfc_write_liquid", use_write_liquid },
         { "mfc_edit_user", use_edit_user }, { "mfc_edit_advanced", use_edit_advanced }, { "mfc_scaled", use_scaled },
@@ -734,6 +837,7 @@ int main(int argc, char **argv)
 
     polling_round(polls);
     polling_n = polling_traffic(polling, sizeof polling);
+    find_answers();
     escapes_n = escape_traffic(escapes, sizeof escapes);
     damaged_n = damaged_traffic(damaged, sizeof damaged);
     random_bytes(any_bytes, sizeof any_bytes);

@@ -62,7 +62,7 @@ static int list(void)
     plain_fresh(&receiver, 0);
     while ((n = fread(piece, 1, sizeof piece, stdin)) > 0) {
         for (size_t at = 0; at < n;) {
-            struct plain_fed fed = plain_feed(&receiver, piece + at, n - at, frame, sizeof frame);
+            struct plain_fed fed = plain_feed(&receiver, 0, piece + at, n - at, frame, sizeof frame);
 
             if (fed.refusal == 3 || fed.refusal == 4)
                 put_line(fed.refusal == 3 ? "refused 3 at" : "refused 4 at", (unsigned long[]){ fed.place }, 1);

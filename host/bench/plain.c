@@ -75,15 +75,35 @@ static size_t skip_noise(struct plain_receiver *receiver, const uint8_t *piece, 
     return at;
 }
 
+/* The stretch that was begun is no more. */
+static void drop_stretch(struct plain_receiver *receiver)
+{
+    receiver->mode = OUTSIDE;
+    receiver->length = 0;
+    receiver->escapes = 0;
+    receiver->sum = 0;
+}
+
 /* gcc must put this into both of its callers: else the answer comes back through memory, and a piece of one byte takes twice the time. */
-static inline __attribute__((always_inline)) struct plain_fed feed(struct plain_receiver *receiver, const uint8_t *piece, size_t n)
+static inline __attribute__((always_inline)) struct plain_fed feed(struct plain_receiver *receiver, uint8_t silence,
+                                                                   const uint8_t *piece, size_t n)
 {
     struct plain_fed fed = { 0, 0, 0, 0 };
     unsigned mode = receiver->mode;
     unsigned length = receiver->length;
     uint8_t sum = receiver->sum;
-    size_t at = mode == OUTSIDE ? skip_noise(receiver, piece, n) : 0;
+    size_t at = 0;
 
+    if (silence) {
+        if (mode > PLAIN || length > 0) {
+            drop_stretch(receiver);
+            fed.refusal = 9;
+            return fed;
+        }
+        mode = OUTSIDE;
+    }
+    if (mode == OUTSIDE)
+        at = skip_noise(receiver, piece, n);
     while (at < n) {
         uint8_t byte = piece[at++];
 
@@ -136,7 +156,8 @@ static inline __attribute__((always_inline)) struct plain_fed feed(struct plain_
     return fed;
 }
 
-struct plain_fed plain_feed(struct plain_receiver *receiver, const uint8_t *piece, size_t n, uint8_t *frame, size_t room)
+struct plain_fed plain_feed(struct plain_receiver *receiver, uint8_t silence, const uint8_t *piece, size_t n, uint8_t *frame,
+                            size_t room)
 {
     struct plain_fed fed = { 0, 0, 0, 0 };
 
@@ -148,26 +169,15 @@ struct plain_fed plain_feed(struct plain_receiver *receiver, const uint8_t *piec
         fed.refusal = 1;
         return fed;
     }
-    fed = feed(receiver, piece, n);
+    fed = feed(receiver, silence, piece, n);
     if (fed.frame_length > 0)
         memcpy(frame, receiver->store, fed.frame_length);
     return fed;
 }
 
-struct plain_fed plain_feed_own(struct plain_receiver *receiver, const uint8_t *piece, size_t n)
+struct plain_fed plain_feed_own(struct plain_receiver *receiver, uint8_t silence, const uint8_t *piece, size_t n)
 {
-    return feed(receiver, piece, n);
-}
-
-uint8_t plain_silence(struct plain_receiver *receiver)
-{
-    uint8_t cut = receiver->mode > PLAIN || (receiver->mode == PLAIN && receiver->length > 0);
-
-    receiver->mode = OUTSIDE;
-    receiver->length = 0;
-    receiver->escapes = 0;
-    receiver->sum = 0;
-    return cut ? 9 : 0;
+    return feed(receiver, silence, piece, n);
 }
 
 /* ---- requests ---- */

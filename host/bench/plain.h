@@ -24,15 +24,13 @@ struct plain_reply { uint8_t refusal, code, bit7, reply; uint32_t value; size_t 
 
 void plain_fresh(struct plain_receiver *receiver, uint8_t kind);
 
-/* Takes bytes up to the end of the first item, or all. A frame's body stands at the start of frame. Refuses a record out of its
-   ranges, and a room under 260. */
-struct plain_fed plain_feed(struct plain_receiver *receiver, const uint8_t *piece, size_t n, uint8_t *frame, size_t room);
+/* Deals with silence, where it came before the piece: 9 where that cut a stretch, and no byte is taken. Else takes bytes up to the end
+   of the first item, or all. A frame's body stands at the start of frame. Refuses a record out of its ranges, and a room under 260. */
+struct plain_fed plain_feed(struct plain_receiver *receiver, uint8_t silence, const uint8_t *piece, size_t n, uint8_t *frame,
+                            size_t room);
 
 /* Does less: it trusts its record, and hands out its own store, where a body stands until the next byte is fed. */
-struct plain_fed plain_feed_own(struct plain_receiver *receiver, const uint8_t *piece, size_t n);
-
-/* Returns 9 where the silence cut a stretch, else 0. */
-uint8_t plain_silence(struct plain_receiver *receiver);
+struct plain_fed plain_feed_own(struct plain_receiver *receiver, uint8_t silence, const uint8_t *piece, size_t n);
 
 struct plain_written plain_write_request(uint8_t address, uint8_t request, uint32_t value, uint8_t *out, size_t room);
 struct plain_written plain_write_reply(uint8_t address, uint8_t request, uint32_t value, uint8_t reply, uint32_t reply_value,

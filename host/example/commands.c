@@ -208,14 +208,91 @@ static void noise(void)
     expect(AT, MFC_REQUEST_GET_ADDRESS, 0, MFC_REPLY_ADDRESS, AT, "address after much noise");
     line.record[1] = 5;
     check(line_noise(&line) == 0, "noise of a spoilt record", "a count");
-    expect_refusal(AT, MFC_REQUEST_GET_ADDRESS, 0, MFC_REFUSAL_BAD_RECORD, "address with a spoilt record");
+    (void)mfc_receiver_fresh(MFC_KIND_REPLY, line.record, sizeof line.record);
     expect(AT, MFC_REQUEST_GET_ADDRESS, 0, MFC_REPLY_ADDRESS, AT, "address after a spoilt record");
-    check(line_noise(&line) == 0, "noise after a spoilt record", "it does not begin again");
     expect_noise(0, "no noise since the start");
     expect_noise(1, "1 byte of noise since the start: swap the transceiver or check the terminations");
     expect_noise(312, "312 bytes of noise since the start: swap the transceiver or check the terminations");
     expect_noise(4294967294u, "4294967294 bytes of noise since the start: swap the transceiver or check the terminations");
     expect_noise(4294967295u, "4294967295 or more bytes of noise since the start: swap the transceiver or check the terminations");
+}
+
+/* What the line brings next: a frame of `length` bytes, a refusal, or neither. */
+static void expect_item(size_t length, uint8_t refusal, const char *what)
+{
+    char found[64];
+    uint8_t refused;
+    size_t n = line_next(&line, &refused);
+
+    (void)snprintf(found, sizeof found, "length %lu, refusal %u", (unsigned long)n, refused);
+    check(n == length && refused == refusal, what, found);
+}
+
+/* As if these bytes had just come. */
+static void arrive(const uint8_t *bytes, size_t n)
+{
+    memcpy(line.bytes, bytes, n);
+    line.start = 0;
+    line.end = n;
+}
+
+/* An answer is 7E 05 90 00 01 05 64 7E. Behind silence its rest is noise, up to the 7E. */
+static void silences(void)
+{
+    static const uint8_t begun[] = { 0x7E, AT, 0x90 };
+    static const uint8_t rest[] = { 0x00, 0x01, AT, 0x64, 0x7E };
+
+    arrive(begun, sizeof begun);
+    expect_item(0, MFC_REFUSAL_CUT_BY_SILENCE, "an answer cut off by silence");
+    check(line.silence == 0, "silence that was dealt with", "it is to come again");
+    arrive(rest, sizeof rest);
+    expect_item(0, 0, "the rest of an answer behind silence");
+    check(line_noise(&line) == 4, "the rest of an answer behind silence", "another number of bytes is noise");
+    arrive(begun, 1);
+    expect_item(0, 0, "a lone 7E before silence");
+}
+
+/* A request is 7E 05 90 00 6A 7E. The rack takes 200 ms without a byte as silence, and what comes then as noise. */
+static void silences_between_requests(void)
+{
+    static const uint8_t begun[] = { 0x7E, AT, 0x90 };
+    static const uint8_t rest[] = { 0x00, 0x6A, 0x7E };
+
+    expect_code(begun, sizeof begun, 0, "a part of a request");
+    for (int waited = 0; waited < 400; waited += TIMEOUT_MS)
+        expect_item(0, 0, "a part of a request, and silence");
+    expect_code(rest, sizeof rest, 0, "the rest of a request behind silence");
+    expect(AT, MFC_REQUEST_GET_ADDRESS, 0, MFC_REPLY_ADDRESS, AT, "address behind silence");
+}
+
+/* With a spoilt record every question ends, and none is sent. Where bytes are waited for, silence and bytes are kept: they are dealt with, in
+   their order, when the record is a good one. */
+static void faults(void)
+{
+    static const uint8_t begun[] = { 0x7E, AT, 0x90 };
+    static const uint8_t come[] = { 0x00, 0x01, 0x7E, AT, 0x90, 0x00, 0x01, AT, 0x64, 0x7E };
+    uint32_t noise_before = line_noise(&line);
+    uint8_t mode = line.record[1];
+
+    line.record[1] = 5;
+    for (int i = 0; i < 3; i++)
+        check_answer(line_ask(&line, AT, MFC_REQUEST_GET_ADDRESS, 0), OWN_FAULT, MFC_REFUSAL_BAD_RECORD, 0, 0, 0,
+                     "address with a spoilt record");
+    line.record[1] = mode;
+    expect_item(0, 0, "questions that were not sent");
+    expect(AT, MFC_REQUEST_GET_ADDRESS, 0, MFC_REPLY_ADDRESS, AT, "address with the record as it was");
+
+    (void)mfc_feed(line.record, sizeof line.record, 0, begun, sizeof begun, line.frame, sizeof line.frame);
+    line.silence = 1;
+    arrive(come, sizeof come);
+    mode = line.record[1];
+    line.record[1] = 5;
+    for (int i = 0; i < 3; i++)
+        expect_item(0, MFC_REFUSAL_BAD_RECORD, "silence and bytes with a spoilt record");
+    line.record[1] = mode;
+    expect_item(0, MFC_REFUSAL_CUT_BY_SILENCE, "the same silence, with the record as it was");
+    expect_item(6, 0, "the answer behind it");
+    check(line_noise(&line) == noise_before + 2, "the bytes between them", "another number is noise");
 }
 
 int main(int argc, char **argv)
@@ -236,6 +313,9 @@ int main(int argc, char **argv)
     refused_before_sending();
     frames_by_hand();
     noise();
+    silences();
+    silences_between_requests();
+    faults();
     line_close(&line);
     (void)printf("commands: %u checks, %u wrong\n", checks, wrong);
     return wrong != 0;

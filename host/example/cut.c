@@ -3,8 +3,13 @@
  * Of what was written and not synced half is lost then, whatever name the file has by that time.
  *
  * A file that is begun before the last one's name was synced ends the program with status 99: after a power cut the older log could be
- * missing what the newer one goes on from. */
+ * missing what the newer one goes on from.
+ *
+ * And a fault of the program itself: from the call of mfc_feed that SPOIL_AT names the receiver's record is spoilt, from the one that
+ * SHORT_AT names the room is a byte short. */
 #define _POSIX_C_SOURCE 200809L
+#include "mfc.h"
+
 #include <fcntl.h>
 #include <signal.h>
 #include <stdarg.h>
@@ -17,16 +22,18 @@ int __real_open(const char *path, int flags, ...);
 ssize_t __real_write(int fd, const void *bytes, size_t n);
 int __real_fsync(int fd);
 int __real_rename(const char *from, const char *to);
+mfc_fed __real_mfc_feed(uint8_t *record, size_t size, uint8_t silence, const uint8_t *piece, size_t n, uint8_t *frame, size_t room);
 int __wrap_open(const char *path, int flags, ...);
 ssize_t __wrap_write(int fd, const void *bytes, size_t n);
 int __wrap_fsync(int fd);
 int __wrap_rename(const char *from, const char *to);
+mfc_fed __wrap_mfc_feed(uint8_t *record, size_t size, uint8_t silence, const uint8_t *piece, size_t n, uint8_t *frame, size_t room);
 
 static int file = -1;            /* the file begun last, as the program has it */
 static int spare = -1;           /* the same, open for this program's end */
 static off_t synced, written;    /* its bytes */
 static int named;                /* a file got its name, and its folder is not synced */
-static long calls;
+static long calls, feeds;
 
 static void count_call(void)
 {
@@ -92,4 +99,16 @@ int __wrap_rename(const char *from, const char *to)
     count_call();
     named = 1;
     return __real_rename(from, to);
+}
+
+mfc_fed __wrap_mfc_feed(uint8_t *record, size_t size, uint8_t silence, const uint8_t *piece, size_t n, uint8_t *frame, size_t room)
+{
+    const char *spoil = getenv("SPOIL_AT"), *shorten = getenv("SHORT_AT");
+
+    feeds++;
+    if (spoil != NULL && feeds >= atol(spoil))
+        record[1] = 5;
+    if (shorten != NULL && feeds >= atol(shorten))
+        room--;
+    return __real_mfc_feed(record, size, silence, piece, n, frame, room);
 }

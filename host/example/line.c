@@ -85,6 +85,7 @@ const char *line_open(struct line *line, const char *device, int timeout_ms)
 {
     line->timeout_ms = timeout_ms;
     line->restless = 0;
+    line->silence = line->fault = 0;
     line->heard = line->stray = 0;
     line->start = line->end = 0;
     if (mfc_receiver_fresh(MFC_KIND_REPLY, line->record, sizeof line->record) != 0)
@@ -199,20 +200,35 @@ static int send_all(struct line *line, const uint8_t *bytes, size_t n)
     return sent == n;
 }
 
-/* Tells the receiver of silence. */
-static uint8_t mark(struct line *line)
+/* Hands the receiver what it has not yet had: the silence, where some came, and the bytes behind it, maybe none. It takes up to the
+   next item's last byte, and the rest stays for the next call. With 1 and 2 it took nothing and has not dealt with the silence, which
+   stays too: a fault of this program, since record and room are its own. */
+static mfc_fed feed(struct line *line)
 {
-    log_record(MFC_LOG_SILENCE, NULL, 0);
-    return mfc_silence(line->record, sizeof line->record);
+    mfc_fed fed = mfc_feed(line->record, sizeof line->record, line->silence, line->bytes + line->start, line->end - line->start,
+                           line->frame, sizeof line->frame);
+
+    line->fault = 0;
+    if (fed.refusal == MFC_REFUSAL_NO_ROOM || fed.refusal == MFC_REFUSAL_BAD_RECORD) {
+        line->fault = fed.refusal;
+        return fed;
+    }
+    if (line->silence)
+        log_record(MFC_LOG_SILENCE, NULL, 0);
+    line->silence = 0;
+    line->start += fed.taken;
+    return fed;
 }
 
 /* Before a question: what is here now answers no open question, so it is thrown away, and where there was any the line must
-   first fall silent. The mark then cuts what the receiver had begun. Without this a late answer could run into the next one. */
+   first fall silent. The mark then cuts what the receiver had begun: its refusal 9 is not the answer's. Without this a late answer
+   could run into the next one. */
 static int settle(struct line *line)
 {
     int64_t limit = now_ms() + (int64_t)line->timeout_ms * LONGEST;
     int wait = line->restless || line->start < line->end;
 
+    line->fault = 0;
     line->stray += line->end - line->start;
     do {
         enum heard heard = hear(line, wait ? silent_at(line) : now_ms());
@@ -226,8 +242,9 @@ static int settle(struct line *line)
     } while (now_ms() < limit);
     line->start = line->end = 0;
     line->restless = 0;
-    (void)mark(line);
-    return 1;
+    line->silence = 1;
+    (void)feed(line);
+    return line->fault == 0;
 }
 
 int line_send(struct line *line, const uint8_t *bytes, size_t n)
@@ -237,37 +254,22 @@ int line_send(struct line *line, const uint8_t *bytes, size_t n)
 
 /* ---- items ---- */
 
-/* Hands the receiver what it has not yet taken, up to the next item. It takes up to the item's last byte, and the rest stays
-   for the next call. */
-static mfc_fed feed(struct line *line)
-{
-    mfc_fed fed = { 0, 0, 0, 0 };
-
-    if (line->start < line->end)
-        fed = mfc_feed(line->record, sizeof line->record, line->bytes + line->start, line->end - line->start,
-                       line->frame, sizeof line->frame);
-    line->start += fed.taken;
-    return fed;
-}
-
-/* The next item. QUIET says that the line fell silent, or that `limit` came on a line that does not: the receiver is told, and
-   refusal 9 is given where that cut a frame. */
+/* The next item. QUIET says that the line fell silent, or that `limit` came on a line that does not: the receiver is told before any
+   other byte is heard, and refusal 9 is given where that cut a frame. */
 static enum heard next_item(struct line *line, int64_t limit, mfc_fed *fed)
 {
-    for (;;) {
-        enum heard heard = QUIET;
+    enum heard heard = BYTES;
 
+    do {
         *fed = feed(line);
-        if (fed->refusal != 0 || fed->frame_length != 0)
-            return BYTES;
-        line->restless = now_ms() >= limit;
-        if (!line->restless)
-            heard = hear(line, silent_at(line));
-        if (heard == QUIET)
-            fed->refusal = mark(line);
-        if (heard != BYTES)
+        if (heard == QUIET || fed->refusal != 0 || fed->frame_length != 0)
             return heard;
-    }
+        line->restless = now_ms() >= limit;
+        heard = line->restless ? QUIET : hear(line, silent_at(line));
+        if (heard == QUIET)
+            line->silence = 1;
+    } while (heard != GONE);
+    return GONE;
 }
 
 size_t line_next(struct line *line, uint8_t *refusal)
@@ -290,6 +292,17 @@ static struct answer ended(enum ending ending, uint8_t refusal)
     return answer;
 }
 
+/* Nothing more can be asked. */
+static struct answer over(const struct line *line)
+{
+    return line->fault != 0 ? ended(OWN_FAULT, line->fault) : ended(LINE_GONE, 0);
+}
+
+int line_is_over(struct answer answer)
+{
+    return answer.ending == LINE_GONE || answer.ending == OWN_FAULT;
+}
+
 /* Whether a frame settles the question. One that belongs to another request does not: it is a late answer, or a doubled
    address, and ours may still come. */
 static int settles(mfc_reply reply)
@@ -310,13 +323,8 @@ static struct answer listen_for(struct line *line, uint8_t address, uint8_t requ
         enum heard heard = next_item(line, limit, &fed);
         uint8_t refusal = fed.refusal;
 
-        if (heard == GONE)
-            return ended(LINE_GONE, 0);
-        if (refusal == MFC_REFUSAL_NO_ROOM || refusal == MFC_REFUSAL_BAD_RECORD) {
-            /* Only a fault of this program spoils the record. The next question gets a good one, which counts noise from 0. */
-            (void)mfc_receiver_fresh(MFC_KIND_REPLY, line->record, sizeof line->record);
-            return ended(REFUSED, refusal);
-        }
+        if (heard == GONE || line->fault != 0)
+            return over(line);
         if (fed.frame_length != 0) {
             mfc_reply reply = mfc_read_reply(address, request, value, line->frame, fed.frame_length);
 
@@ -345,7 +353,7 @@ struct answer line_ask(struct line *line, uint8_t address, uint8_t request, uint
     if (written.refusal != 0)
         return ended(REFUSED, written.refusal);
     if (!line_send(line, out, written.length))
-        return ended(LINE_GONE, 0);
+        return over(line);
     return listen_for(line, address, request, value);
 }
 

@@ -13,6 +13,8 @@ struct line {
     int fd;
     int timeout_ms;              /* the line counts as silent after so long without a byte */
     int restless;                /* the last question ended with the line not known to be quiet */
+    uint8_t silence;             /* whether silence came that the receiver has not dealt with */
+    uint8_t fault;               /* 1 or 2 where the receiver's last call was refused so, by a fault of this program; else 0 */
     unsigned long heard;         /* bytes that arrived */
     unsigned long stray;         /* those of them thrown away because no question was open */
     uint8_t record[MFC_RECORD_SIZE]; /* the receiver */
@@ -27,7 +29,8 @@ enum ending {
     REFUSED,                     /* `reply.refusal` says why, with a device error `reply.code`, with 3 and 4 `place` where */
     SILENT,                      /* nothing arrived */
     NOISE,                       /* bytes arrived, but none of a frame: noise, or a 7E with nothing behind it */
-    LINE_GONE                    /* hang-up, unplugged, or an error in errno */
+    LINE_GONE,                   /* hang-up, unplugged, or an error in errno */
+    OWN_FAULT                    /* the receiver's record or room is bad, by a fault of this program: `reply.refusal` is 1 or 2 */
 };
 
 struct answer {
@@ -50,16 +53,20 @@ int line_speed(struct line *line, uint32_t baud);
    calibrations, product type and set address 0 has the bytes of an error answer (code 1): use an adapter that does not echo. */
 struct answer line_ask(struct line *line, uint8_t address, uint8_t request, uint32_t value);
 
-/* Sends bytes as they are, after what line_ask does before a question. Returns 0 if the line is gone. */
+/* Whether the line is over: it is gone, or this program is at fault. Every other question would end so too. */
+int line_is_over(struct answer answer);
+
+/* Sends bytes as they are, after what line_ask does before a question. Returns 0 if the line is over. */
 int line_send(struct line *line, const uint8_t *bytes, size_t n);
 
 /* Waits for the next item, taking bytes as needed. `*refusal` is 0 with a frame, whose length is returned; the refusal's
-   number with length 0; and 0 with length 0 where the line fell silent or is gone. */
+   number with length 0; and 0 with length 0 where the line fell silent or is gone. With 1 and 2, a fault of this program, silence and bytes
+   are kept. */
 size_t line_next(struct line *line, uint8_t *refusal);
 
 /* The bytes that the receiver threw away as noise since the line was opened, 4,294,967,295 for more too. Stray bytes are not among
    them, since the receiver does not get those; nor is, on a two-wire line that echoes, what comes behind the echo's 7E. If a fault of
-   this program spoils the receiver's record, the count is lost with it and begins at 0 again. */
+   this program spoils the receiver's record, the count is lost with it, and 0 is told. */
 uint32_t line_noise(const struct line *line);
 
 void line_close(struct line *line);

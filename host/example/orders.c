@@ -26,7 +26,7 @@ static enum outcome order_controller(struct plant *plant, const struct order *or
         print_body(&plant->line, answer);
     if (answer.ending != ANSWERED) {
         print_unanswered(order, answer);
-        return answer.ending == LINE_GONE ? ORDER_LINE_GONE : ORDER_NOT_DONE;
+        return line_is_over(answer) ? ORDER_LINE_OVER : ORDER_NOT_DONE;
     }
     (void)printf("order %s: done, controller %u uses calibration %lu %s\n", order->line, order->address,
                  (unsigned long)order->calibration, order->verb == LOAD ? "until its restart" : "for good");

@@ -12,7 +12,7 @@ struct plant {
     int show;                    /* whether the bodies of answers are printed */
 };
 
-enum outcome { ORDER_DONE, ORDER_NOT_DONE, ORDER_LINE_GONE };
+enum outcome { ORDER_DONE, ORDER_NOT_DONE, ORDER_LINE_OVER };
 
 /* Prints one line on what came of it. */
 enum outcome carry_out(struct plant *plant, const struct order *order);

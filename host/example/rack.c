@@ -85,6 +85,7 @@ struct rack {
     FILE *wire;
     int master, slave;           /* the slave is held open, so that the line lives on between two masters */
     uint8_t record[MFC_RECORD_SIZE], frame[MFC_FRAME_ROOM];
+    int faulty;                  /* record or room was refused, by a fault of this program */
     struct waiting waiting[WAITING];
     uint8_t ahead[AHEAD];        /* what goes out before the next bytes, in one piece with them */
     size_t ahead_n;
@@ -438,21 +439,26 @@ static void serve(struct rack *rack, const uint8_t *body, size_t n)
     }
 }
 
-static void take(struct rack *rack, const uint8_t *piece, size_t n)
+/* Takes a piece, maybe an empty one, and before it the silence, where some came. */
+static void take(struct rack *rack, uint8_t silence, const uint8_t *piece, size_t n)
 {
-    size_t at = 0;
+    do {
+        mfc_fed fed = mfc_feed(rack->record, sizeof rack->record, silence, piece, n, rack->frame, sizeof rack->frame);
 
-    while (at < n) {
-        mfc_fed fed = mfc_feed(rack->record, sizeof rack->record, piece + at, n - at, rack->frame, sizeof rack->frame);
-
-        at += fed.taken;
+        if (fed.refusal == MFC_REFUSAL_NO_ROOM || fed.refusal == MFC_REFUSAL_BAD_RECORD) {
+            /* Nothing is taken, and the same call would be refused again. */
+            (void)fprintf(stderr, "rack: refused %u (%s): %s\n", fed.refusal, refusal_words(fed.refusal), refusal_advice(fed.refusal));
+            rack->faulty = 1;
+            return;
+        }
+        silence = 0;
         if (fed.frame_length != 0)
             serve(rack, rack->frame, fed.frame_length);
         else if (fed.refusal != 0)
             rack->unheard++;
-        if (fed.taken == 0)
-            return;
-    }
+        piece += fed.taken;
+        n -= fed.taken;
+    } while (n > 0);
 }
 
 static void hear(struct rack *rack)
@@ -467,9 +473,9 @@ static void hear(struct rack *rack)
     if (rack->echo)
         put_ahead(rack, bytes, (size_t)n);
     if (rack->damage_requests)
-        take(rack, heard, pass_over(&rack->damage, bytes, (size_t)n, heard, &struck));
+        take(rack, 0, heard, pass_over(&rack->damage, bytes, (size_t)n, heard, &struck));
     else
-        take(rack, bytes, (size_t)n);
+        take(rack, 0, bytes, (size_t)n);
     /* Nobody answered: the echo alone. */
     if (rack->echo && rack->ahead_n > 0)
         put_now(rack, bytes, 0);
@@ -477,10 +483,11 @@ static void hear(struct rack *rack)
 
 static void run(struct rack *rack)
 {
+    static const uint8_t nothing[1] = { 0 };
     int64_t end = rack->seconds > 0 ? now_ms() + rack->seconds * 1000 : INT64_MAX;
     int64_t last = now_ms();
 
-    while (!stop && now_ms() < end) {
+    while (!stop && !rack->faulty && now_ms() < end) {
         struct pollfd one = { 0, POLLIN, 0 };
 
         one.fd = rack->master;
@@ -488,8 +495,7 @@ static void run(struct rack *rack)
             hear(rack);
             last = now_ms();
         } else if (now_ms() - last >= SILENCE_MS) {
-            if (mfc_silence(rack->record, sizeof rack->record) != 0)
-                rack->unheard++;
+            take(rack, 1, nothing, 0);
             last = now_ms();
         }
     }
@@ -655,5 +661,5 @@ int main(int argc, char **argv)
         (void)fault(rack.wire_name);
         return 3;
     }
-    return 0;
+    return rack.faulty ? 3 : 0;
 }

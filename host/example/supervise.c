@@ -26,7 +26,7 @@
 
 /* The exit status says what to look at. A log that cannot be begun is NO_LINE, before anything is polled; one that is not all on disk in
    the end is SOME_REFUSED, and one that was saved late is no fault. */
-enum { ALL_WELL = 0, SOME_REFUSED = 1, USAGE = 2, NO_LINE = 3 };
+enum { ALL_WELL = 0, SOME_REFUSED = 1, USAGE = 2, NO_LINE = 3, PROGRAM_FAULT = 4 };
 
 static const char help[] =
     "usage: supervise [--rounds N] [--every S] [--timeout MS] [--board RATE] [--console] [--log FILE] [--show] DEVICE\n"
@@ -45,7 +45,7 @@ static const char help[] =
     "  --show        print the body of each answer, with its checksum\n"
     "  --help        print this\n"
     "Exit status: 0 all answered, 1 some refused, silent, not done, not on the board or not in the log, 2 wrong usage, 3 no line, bus or\n"
-    "log to begin with, or line lost.\n";
+    "log to begin with, or line lost, 4 a fault of this program.\n";
 
 struct options {
     long rounds;
@@ -133,16 +133,16 @@ static struct answer ask(struct plant *plant, uint8_t address, uint8_t request)
     return answer;
 }
 
-/* One line for one controller. Returns 0 if the line is gone. */
+/* One line for one controller. Returns 0 if the line is over. */
 static int poll_controller(struct plant *plant, uint8_t address, struct counts *counts)
 {
     struct answer measured = ask(plant, address, MFC_REQUEST_MEASURED_VALUE);
     struct answer calibration;
 
-    if (measured.ending == LINE_GONE)
+    if (line_is_over(measured))
         return 0;
     calibration = ask(plant, address, MFC_REQUEST_GET_CALIBRATION);
-    if (calibration.ending == LINE_GONE)
+    if (line_is_over(calibration))
         return 0;
     (void)printf("controller %2u: measured ", address);
     print_answer(measured, counts);
@@ -172,7 +172,7 @@ static void poll_sensors(struct counts *counts)
     print_sensor("liquid", flow, "ml/min", liquid_temperature(), counts);
 }
 
-/* Carries out the orders that are there. Returns 0 if the line is gone. */
+/* Carries out the orders that are there. Returns 0 if the line is over. */
 static int take_orders(struct plant *plant, unsigned long *undone)
 {
     struct order order;
@@ -180,14 +180,14 @@ static int take_orders(struct plant *plant, unsigned long *undone)
     for (int lines = 0; lines < LINES_AT_ONCE && !stop && console_next(&order); lines++) {
         enum outcome outcome = carry_out(plant, &order);
 
-        if (outcome == ORDER_LINE_GONE)
+        if (outcome == ORDER_LINE_OVER)
             return 0;
         *undone += outcome == ORDER_NOT_DONE;
     }
     return 1;
 }
 
-/* Takes orders until the next round's time has come, at least once. Returns 0 if the line is gone. */
+/* Takes orders until the next round's time has come, at least once. Returns 0 if the line is over. */
 static int await_round(struct plant *plant, int64_t next, unsigned long *undone)
 {
     for (;;) {
@@ -203,7 +203,7 @@ static int await_round(struct plant *plant, int64_t next, unsigned long *undone)
     }
 }
 
-/* Returns 0 if the line is gone. */
+/* Returns 0 if the line is over. */
 static int poll_rack(struct plant *plant, struct counts *counts)
 {
     for (uint8_t address = 0; address < RACK && !stop; address++)
@@ -232,7 +232,7 @@ static uint32_t print_growth(const struct line *line, uint32_t before)
     return noise;
 }
 
-/* A round that is broken off takes no poll from the board, and shows it all the same. Returns 0 if the line is gone. */
+/* A round that is broken off takes no poll from the board, and shows it all the same. Returns 0 if the line is over. */
 static int poll_rounds(struct plant *plant, const struct options *options, struct results *results)
 {
     int64_t next = now_ms();
@@ -311,6 +311,18 @@ static void print_results(const struct plant *plant, const struct results *resul
                  line->polls, line->answered, line->refused, line->silent, plant->line.stray);
 }
 
+/* Why the polling ended before all rounds were done. Returns the exit status. */
+static int tell_end(const struct line *line, const char *device)
+{
+    if (line->fault == 0) {
+        (void)fprintf(stderr, "supervise: %s: the line is gone: check the adapter's plug, then start again\n", device);
+        return NO_LINE;
+    }
+    (void)fprintf(stderr, "supervise: %s: refused %u (%s): %s, then start again\n", device, line->fault, refusal_words(line->fault),
+                  refusal_advice(line->fault));
+    return PROGRAM_FAULT;
+}
+
 static int all_well(const struct results *results)
 {
     return results->line.answered == results->line.polls && results->bus.answered == results->bus.polls
@@ -323,7 +335,7 @@ int main(int argc, char **argv)
     static char out[4096];
     struct options options = { 1, 0, 200, 0, 0, 0, { 0, 0, 0 }, NULL, NULL };
     struct results results = { { 0, 0, 0, 0 }, { 0, 0, 0, 0 }, 0, 0 };
-    int there;
+    int there, status;
 
     (void)setvbuf(stdout, out, _IOLBF, sizeof out);
     if (argc == 2 && strcmp(argv[1], "--help") == 0) {
@@ -340,13 +352,16 @@ int main(int argc, char **argv)
     there = poll_rounds(&plant, &options, &results);
     handover_end();
     log_end();
-    /* Of a line that is gone too: it may say why. */
-    print_noise(&plant.line);
+    /* Of a line that is gone too: it may say why. After a fault of this program its count is not to be trusted. */
+    if (plant.line.fault == 0)
+        print_noise(&plant.line);
     if (there)
         print_results(&plant, &results);
     (void)fflush(stdout);
-    if (!there)
-        (void)fprintf(stderr, "supervise: %s: the line is gone: check the adapter's plug, then start again\n", options.device);
+    if (there)
+        status = all_well(&results) ? ALL_WELL : SOME_REFUSED;
+    else
+        status = tell_end(&plant.line, options.device);
     line_close(&plant.line);
-    return !there ? NO_LINE : all_well(&results) ? ALL_WELL : SOME_REFUSED;
+    return status;
 }

@@ -384,22 +384,21 @@ mfc_reply mfc_read_reply(uint8_t address, uint8_t request, uint32_t value,
  * order: 1 where size is under MFC_RECORD_SIZE; 12 for another kind. */
 uint8_t mfc_receiver_fresh(uint8_t kind, uint8_t *record, size_t size);
 
-/* Hands the n bytes of a piece to the receiver whose record is lent. It takes bytes up to and
- * including the one that completes an item, a frame or a refusal, or all of them: hand in the
- * rest again. A frame's unstuffed body stands at the start of frame; else frame is untouched.
- * Refusals, in their order: 2 where size is under MFC_RECORD_SIZE or a field of the record is
- * out of its range; 1 where room is under MFC_FRAME_ROOM; else those of the bytes up to a 7E
+/* Hands the n bytes of a piece to the receiver whose record is lent. silence says whether over
+ * 200 ms without a byte came before them: 0 for no, any other number for yes; an empty piece
+ * may carry it. It is dealt with first: a frame that was begun is cut off, refusal 9, and bytes
+ * are noise until the next 7E. The call takes bytes up to and including the one that completes
+ * an item, a frame or a refusal, or all of them, and none with 9. A frame's unstuffed body
+ * stands at the start of frame; else frame is untouched. Refusals, in their order: 2 where size
+ * is under MFC_RECORD_SIZE or a field of the record is out of its range; 1 where room is under
+ * MFC_FRAME_ROOM; 9 where silence cut off bytes of a frame; else those of the bytes up to a 7E
  * that are no frame: 3 for a wrong escape or 4 for a bare 11 or 13 hex, whichever comes first,
- * with its place; then 5 to 8 of the body (too long, too short, L wrong, checksum wrong). With
- * 2 and 1 nothing is taken: the same call again is refused again. */
-mfc_fed mfc_feed(uint8_t *record, size_t size, const uint8_t *piece, size_t n,
+ * with its place; then 5 to 8 of the body (too long, too short, L wrong, checksum wrong). Hand
+ * in the rest again, with silence 0. Not so with 2 and 1: nothing is taken and silence is not
+ * dealt with; the same call again is refused again, and the rest, an empty one too, still
+ * carries the silence. */
+mfc_fed mfc_feed(uint8_t *record, size_t size, uint8_t silence, const uint8_t *piece, size_t n,
                  uint8_t *frame, size_t room);
-
-/* Tells the receiver whose record is lent of silence over 200 ms: what was begun is cut off,
- * and bytes are noise until the next 7E. Answers the refusal's number, 0 for none: 2 where size
- * is under MFC_RECORD_SIZE or a field of the record is out of its range; 9 where bytes of a
- * frame were cut off. */
-uint8_t mfc_silence(uint8_t *record, size_t size);
 
 /* The count of bytes that the receiver whose record is lent has thrown away as noise: those
  * before the first 7E, and those after silence up to the next 7E. A 7E is no noise, nor are the

@@ -26,7 +26,7 @@ static const uint8_t specials[4] = {0x7E, 0x7D, 0x11, 0x13}; /* the bytes that a
 
 static void record_size(void)
 {
-    uint8_t record[MFC_RECORD_SIZE + 8];
+    uint8_t record[MFC_RECORD_SIZE + 8], frame[MFC_FRAME_ROOM];
     expect(MFC_RECORD_SIZE == 268, "the bytes of a record", MFC_RECORD_SIZE);
     for (size_t size = 0; size <= sizeof record; size++) {
         uint8_t refusal = mfc_receiver_fresh(MFC_KIND_REPLY, record, size);
@@ -34,7 +34,10 @@ static void record_size(void)
     }
     for (size_t size = 0; size <= sizeof record; size++) {
         int refusal = size < MFC_RECORD_SIZE ? MFC_REFUSAL_BAD_RECORD : 0;
-        expect(mfc_silence(record, size) == refusal, "a record of this size", size);
+        expect(mfc_feed(record, size, 0, NULL, 0, frame, sizeof frame).refusal == refusal, "a record of this size", size);
+        expect(mfc_feed(record, size, 1, NULL, 0, frame, sizeof frame).refusal == refusal, "silence in this size", size);
+        expect(mfc_feed(record, size, 1, NULL, 0, frame, 0).refusal == (refusal ? refusal : MFC_REFUSAL_NO_ROOM),
+               "this size before no room", size);
         expect(mfc_receiver_noise(record, size).refusal == refusal, "the noise of a record of this size", size);
     }
 }
@@ -47,10 +50,10 @@ static void noise_count(void)
     memset(record, 0x7E, sizeof record);
     memcpy(record, head, sizeof head);
     expect(mfc_receiver_noise(record, sizeof record).count == 0xFEDCBA98, "the highest byte first", 0);
-    mfc_feed(record, sizeof record, noise, sizeof noise, frame, sizeof frame);
+    mfc_feed(record, sizeof record, 0, noise, sizeof noise, frame, sizeof frame);
     expect(mfc_receiver_noise(record, sizeof record).count == 0xFEDCBA9B, "three bytes more", 3);
     memset(record + 4, 0xFF, 4);
-    mfc_feed(record, sizeof record, noise, sizeof noise, frame, sizeof frame);
+    mfc_feed(record, sizeof record, 1, noise, sizeof noise, frame, sizeof frame);
     expect(mfc_receiver_noise(record, sizeof record).count == 4294967295, "past the limit", 3);
     mfc_receiver_fresh(MFC_KIND_REPLY, record, sizeof record);
     expect(mfc_receiver_noise(record, sizeof record).count == 0, "a fresh receiver", 0);
@@ -62,8 +65,35 @@ static void frame_room(void)
     const uint8_t one = 0x7E;
     mfc_receiver_fresh(MFC_KIND_REPLY, record, sizeof record);
     for (size_t room = 0; room <= sizeof frame; room++) {
-        mfc_fed fed = mfc_feed(record, sizeof record, &one, 1, frame, room);
-        expect(fed.refusal == (room < MFC_FRAME_ROOM ? MFC_REFUSAL_NO_ROOM : 0), "so much room for a frame", room);
+        int refusal = room < MFC_FRAME_ROOM ? MFC_REFUSAL_NO_ROOM : 0;
+        for (uint8_t silence = 0; silence < 2; silence++) {
+            mfc_fed fed = mfc_feed(record, sizeof record, silence, &one, 1, frame, room);
+            expect(fed.refusal == refusal && fed.taken == (refusal ? 0U : 1U), "so much room for a frame", room);
+            fed = mfc_feed(record, sizeof record, silence, NULL, 0, frame, room);
+            expect(fed.refusal == refusal && fed.taken == 0, "so much room for an empty piece", room);
+        }
+    }
+}
+
+/* Every number but 0 says that silence came before. 02 (ix): it cuts a stretch off with 9, and nothing of the piece is taken. */
+static void silence_numbers(void)
+{
+    static const uint8_t begun[] = {0x7E, 0x00, 0x45}, rest[] = {0x00, 0xBA, 0x7E};
+    uint8_t record[MFC_RECORD_SIZE], frame[MFC_FRAME_ROOM];
+    for (unsigned silence = 0; silence < 256; silence++) {
+        for (size_t n = 0; n <= sizeof rest; n++) {
+            mfc_receiver_fresh(MFC_KIND_REQUEST, record, sizeof record);
+            mfc_feed(record, sizeof record, 0, begun, sizeof begun, frame, sizeof frame);
+            mfc_fed fed = mfc_feed(record, sizeof record, (uint8_t)silence, rest, n, frame, MFC_FRAME_ROOM - 1);
+            expect(fed.refusal == MFC_REFUSAL_NO_ROOM && fed.taken == 0, "silence without room", silence);
+            fed = mfc_feed(record, sizeof record, (uint8_t)silence, rest, n, frame, sizeof frame);
+            expect(fed.refusal == (silence ? MFC_REFUSAL_CUT_BY_SILENCE : 0), "a frame cut off by this number", silence);
+            expect(fed.taken == (silence ? 0 : n), "taken with this number", silence);
+            expect(fed.frame_length == (silence == 0 && n == sizeof rest ? 4 : 0), "the frame with this number", silence);
+            fed = mfc_feed(record, sizeof record, (uint8_t)silence, rest, n, frame, sizeof frame);
+            expect(fed.refusal == (silence || n < sizeof rest ? 0 : MFC_REFUSAL_BODY_TOO_SHORT), "the piece again", silence);
+            expect(fed.taken == n && fed.frame_length == 0, "taken of the piece again", silence);
+        }
     }
 }
 
@@ -138,7 +168,7 @@ static void kinds(void)
         uint8_t refusal = mfc_receiver_fresh((uint8_t)kind, record, sizeof record);
         expect(refusal == (known ? 0 : MFC_REFUSAL_OUT_OF_RANGE), "a kind of receiver", kind);
         if (known) {
-            mfc_fed fed = mfc_feed(record, sizeof record, wire, sizeof wire, frame, sizeof frame);
+            mfc_fed fed = mfc_feed(record, sizeof record, 0, wire, sizeof wire, frame, sizeof frame);
             expect(kind == MFC_KIND_REQUEST ? fed.frame_length == 4 : fed.refusal == MFC_REFUSAL_BODY_TOO_SHORT,
                    "a request's frame", kind);
         }
@@ -152,7 +182,7 @@ static uint8_t refusal_of(const uint8_t *stretch, size_t n)
     memcpy(wire + 1, stretch, n);
     wire[n + 1] = 0x7E;
     mfc_receiver_fresh(MFC_KIND_REQUEST, record, sizeof record);
-    return mfc_feed(record, sizeof record, wire, n + 2, frame, sizeof frame).refusal;
+    return mfc_feed(record, sizeof record, 0, wire, n + 2, frame, sizeof frame).refusal;
 }
 
 /* Those that are not named elsewhere here: something that 01's table says is refused so. */
@@ -167,8 +197,9 @@ static void refusals(void)
     expect(refusal_of((const uint8_t[]){0x00, 0x45, 0x01, 0xB9}, 4) == MFC_REFUSAL_WRONG_LENGTH, "L of 1 without data", 7);
     expect(refusal_of((const uint8_t[]){0x00, 0x45, 0x00, 0xBB}, 4) == MFC_REFUSAL_WRONG_CHECKSUM, "checksum BB for BA", 8);
     mfc_receiver_fresh(MFC_KIND_REQUEST, record, sizeof record);
-    mfc_feed(record, sizeof record, begun, sizeof begun, frame, sizeof frame);
-    expect(mfc_silence(record, sizeof record) == MFC_REFUSAL_CUT_BY_SILENCE, "a frame cut off", 9);
+    mfc_feed(record, sizeof record, 0, begun, sizeof begun, frame, sizeof frame);
+    mfc_fed fed = mfc_feed(record, sizeof record, 1, begun, sizeof begun, frame, sizeof frame);
+    expect(fed.refusal == MFC_REFUSAL_CUT_BY_SILENCE && fed.taken == 0, "a frame cut off", 9);
     expect(mfc_write_request(255, MFC_REQUEST_SET_ADDRESS, 1, out, sizeof out).refusal == MFC_REFUSAL_ADDRESS_BROADCAST,
            "set address for all", 10);
     expect(mfc_write_request(0, MFC_REQUEST_SET_GAIN, 0x7F800000, out, sizeof out).refusal == MFC_REFUSAL_BAD_FLOAT,
@@ -397,7 +428,7 @@ int main(int argc, char **argv)
     static void (*const sections[])(void) = {
         record_size, frame_room,   request_room,  reply_room,  requests_and_replies, kinds,    refusals,  start_values,
         i2c_codes,   board_places, board_numbers, board_names, board_full,           log_room, log_kinds, log_row,
-        log_refusals, noise_count,
+        log_refusals, noise_count, silence_numbers,
     };
     const int count = sizeof sections / sizeof sections[0];
     if (argc != 2) {

@@ -331,17 +331,24 @@ fn short_streams_section(section: &mut Section) {
 
 /// A piece with room enough, each rest handed in again.
 fn feed(piece: &[u8]) -> Step {
-    Step::Feed { piece: Hex(piece.to_vec()), room: 260, again: true }
+    Step::Feed { silence: 0, piece: Hex(piece.to_vec()), room: 260, again: true }
 }
 
-/// A stream cut at its marks and into pieces of a size.
+/// The same with silence before it.
+fn after_silence(piece: &[u8]) -> Step {
+    Step::Feed { silence: 1, piece: Hex(piece.to_vec()), room: 260, again: true }
+}
+
+/// A stream cut at its marks and into pieces of a size; each mark goes with the piece behind it, or with an empty one.
 fn pieces(stream: &[Event], widest: usize) -> Vec<Step> {
     let mut steps = Vec::new();
     for (at, part) in stream.split(|event| *event == Event::Mark).enumerate() {
+        let bytes = raw_bytes(part);
+        let (first, rest) = bytes.split_at(if at > 0 { widest.min(bytes.len()) } else { 0 });
         if at > 0 {
-            steps.push(Step::Mark);
+            steps.push(after_silence(first));
         }
-        steps.extend(raw_bytes(part).chunks(widest).map(feed));
+        steps.extend(rest.chunks(widest).map(feed));
     }
     steps
 }
@@ -359,7 +366,8 @@ fn every_cut(section: &mut Section, kind: u8, stream: &[Event]) {
     for first in 0..=stream.len() {
         for second in first..=stream.len() {
             let mut steps = pieces(&stream[..first], usize::MAX);
-            steps.push(Step::Feed { piece: Hex(raw_bytes(&stream[first..])), room: 259, again: false });
+            let silence = u8::from(stream.get(first) == Some(&Event::Mark));
+            steps.push(Step::Feed { silence, piece: Hex(raw_bytes(&stream[first..])), room: 259, again: false });
             steps.extend(pieces(&stream[first..second], usize::MAX));
             steps.push(feed(&[]));
             steps.extend(pieces(&stream[second..], usize::MAX));
@@ -416,7 +424,7 @@ fn refusals_in(kind: u8, stream: &[u8], widest: usize) -> Vec<(u8, u16)> {
     for piece in stream.chunks(widest) {
         let mut rest = piece;
         while !rest.is_empty() {
-            let fed = library.feed(&mut record, rest, &mut buffer);
+            let fed = library.feed(&mut record, 0, rest, &mut buffer);
             if (fed.refusal, fed.place, fed.frame_length) != (0, 0, 0) {
                 all.push((fed.refusal, fed.place));
             }
@@ -520,17 +528,17 @@ fn records_section(section: &mut Section) {
             }
         };
         let room = random.pick(&[0, 259, 260, 260, 260, 260, 260, 300]);
+        let silence = if random.one_in(3) { generate::silence(random) } else { 0 };
         let salt = salt(section);
         match section.random.below(8) {
-            0 | 1 => section.check(Silence { record, salt }),
-            2 => section.check(ReceiverNoise { record, salt }),
-            _ => section.check(Feed { record, piece: Hex(piece), room, salt }),
+            0 => section.check(ReceiverNoise { record, salt }),
+            _ => section.check(Feed { record, silence, piece: Hex(piece), room, salt }),
         }
     }
 }
 
 /// Records in a stretch with the length around the store's and around its own end; stored bytes of which none, all or
-/// some were received as two; then plain bytes or escapes, and then nothing, an end or a fault.
+/// some were received as two; then silence or none, plain bytes or escapes, and then nothing, an end or a fault.
 fn lengths_section(section: &mut Section) {
     let stores: [&[u8]; 3] = [&[0x00], &[0x7E, 0x7D, 0x11, 0x13], &generate::STUFFING_BYTES];
     let between: [&[u8]; 6] = [&[], &[0x00], &[0x5E], &[0x7D, 0x5D], &[0x00, 0x7D, 0x31], &[0x33, 0x7D, 0x33, 0x00]];
@@ -542,10 +550,11 @@ fn lengths_section(section: &mut Section) {
             let mut record = generate::head(random.below(2) as u8, mode, length, generate::count(random));
             record.extend(store.iter().cycle().take(STORE));
             for (bytes, end) in between.iter().flat_map(|bytes| ends.map(|end| (bytes, end))) {
-                let (record, piece) = (Hex(record.clone()), Hex([*bytes, end].concat()));
-                section.check(Feed { record, piece, room: 260, salt: length as u32 });
+                for silence in [0, 1] {
+                    let (record, piece) = (Hex(record.clone()), Hex([*bytes, end].concat()));
+                    section.check(Feed { record, silence, piece, room: 260, salt: length as u32 });
+                }
             }
-            section.check(Silence { record: Hex(record), salt: length as u32 });
         }
     }
 }
@@ -560,12 +569,11 @@ fn ranges_section(section: &mut Section) {
                 let mut record = generate::head(kind, mode, length, generate::count(&mut section.random));
                 record.extend(generate::wire_bytes(&mut section.random, STORE));
                 for piece in pieces {
-                    for room in [259, 260] {
+                    for (silence, room) in [(0, 259), (0, 260), (1, 259), (1, 260)] {
                         let (record, piece) = (Hex(record.clone()), Hex(piece.to_vec()));
-                        section.check(Feed { record, piece, room, salt: length as u32 });
+                        section.check(Feed { record, silence, piece, room, salt: length as u32 });
                     }
                 }
-                section.check(Silence { record: Hex(record.clone()), salt: length as u32 });
                 section.check(ReceiverNoise { record: Hex(record), salt: length as u32 });
             }
         }
@@ -575,10 +583,12 @@ fn ranges_section(section: &mut Section) {
             let mut record = vec![0; RECORD];
             record[1] = mode;
             record[field] = byte;
-            for piece in [&[0x7E][..], &[0x00], &[0x00, 0x7E]] {
-                section.check(Feed { record: Hex(record.clone()), piece: Hex(piece.to_vec()), room: 260, salt: 0 });
+            for piece in [&[][..], &[0x7E], &[0x00], &[0x00, 0x7E]] {
+                for silence in [0, 1] {
+                    let (record, piece) = (Hex(record.clone()), Hex(piece.to_vec()));
+                    section.check(Feed { record, silence, piece, room: 260, salt: 0 });
+                }
             }
-            section.check(Silence { record: Hex(record.clone()), salt: 0 });
             section.check(ReceiverNoise { record: Hex(record), salt: 0 });
         }
     }
@@ -615,8 +625,8 @@ fn noise_runs_section(section: &mut Section) {
         for widest in [1, 2, 16, 4096, 65_535, 65_536, n] {
             let random = &mut section.random;
             let mut run = || Step::Parts { bytes: Hex(generate::noise_bytes(random, n)), widest };
-            let steps =
-                vec![run(), feed(&[DELIMITER, 0x00]), Step::Mark, run(), feed(&[DELIMITER, 0x11]), feed(&[DELIMITER])];
+            let (begun, mark) = (feed(&[DELIMITER, 0x00]), after_silence(&[]));
+            let steps = vec![run(), begun, mark, run(), feed(&[DELIMITER, 0x11]), feed(&[DELIMITER])];
             section.check(Series { kind: (widest % 2) as u8, steps, salt: n as u32 });
         }
     }
@@ -638,9 +648,9 @@ fn noise_limit_section(section: &mut Section) {
                 let ways = [
                     vec![feed(&bytes)],
                     vec![Step::Parts { bytes: Hex(bytes.clone()), widest }],
-                    vec![feed(first), Step::Mark, feed(second)],
-                    vec![feed(&begun), Step::Mark, feed(second)],
-                    vec![feed(&framed), Step::Mark, feed(second), feed(&frame), Step::Mark, feed(&bytes)],
+                    vec![feed(first), after_silence(second)],
+                    vec![feed(&begun), after_silence(second)],
+                    vec![feed(&framed), after_silence(&[]), feed(second), feed(&frame), after_silence(&bytes)],
                 ];
                 for (salt, steps) in (0..).zip(ways) {
                     let steps = [&[Step::Count(count)][..], &steps].concat();
@@ -670,6 +680,156 @@ fn noise_asked_section(section: &mut Section) {
     }
 }
 
+// ---- Silence and bytes in one call, 02 (ix)
+
+/// The calls that are refused before each one that is not: none, one for the room, one for the record, and more.
+const SPOILT: [&[Spoilt]; 4] = [
+    &[],
+    &[Spoilt::Room(259)],
+    &[Spoilt::Byte(1, 5, 260)],
+    &[Spoilt::Room(0), Spoilt::Short(267, 260), Spoilt::Byte(0, 2, 0)],
+];
+
+/// Every stream of a few events with a mark among them, cut at every set of places.
+fn silence_cuts_section(section: &mut Section) {
+    const ALPHABET: [Event; 4] = [Event::Mark, Event::Byte(DELIMITER), Event::Byte(ESCAPE), Event::Byte(0x00)];
+    for events in 1..=6 {
+        for number in 0..1_usize << (2 * events) {
+            let stream: Vec<Event> = (0..events).map(|at| ALPHABET[number >> (2 * at) & 3]).collect();
+            if !stream.contains(&Event::Mark) {
+                continue;
+            }
+            for set in 0..1_usize << (events - 1) {
+                let cuts: Vec<usize> = (1..events).filter(|at| set >> (at - 1) & 1 == 1).collect();
+                for refused in SPOILT {
+                    let (stream, cuts, refused) = (stream.clone(), cuts.clone(), refused.to_vec());
+                    section.check(Handed { kind: 0, stream, cuts, refused, flag: 1, salt: (number + set) as u32 });
+                }
+            }
+        }
+    }
+}
+
+/// Frames, a fault and a stretch that is begun: marks at every two places, or at one, and cuts at every two; among the
+/// refused calls are those of every room under 260.
+fn silence_places_section(section: &mut Section) {
+    let request = [&wire(&body(&[0x00, 0x45, 0x00]))[..], &[0x11, DELIMITER, 0x00]].concat();
+    let reply = [&[0x00][..], &wire(&body(&[0x00, 0x46, 0x20, 0x00])), &[ESCAPE, DELIMITER, ESCAPE]].concat();
+    let pairs = |n: usize| (0..n).flat_map(move |first| (first..n).map(move |second| (first, second)));
+    let mut turn = 0;
+    for (kind, bytes) in (0..).zip([request, reply]) {
+        let end = bytes.len();
+        for (first, second) in pairs(end + 2).filter(|pair| pair.0 <= end) {
+            let mut stream = events_of(&bytes);
+            // A second place past the end stands for no second mark.
+            if second <= end {
+                stream.insert(second, Event::Mark);
+            }
+            stream.insert(first, Event::Mark);
+            for (from, to) in pairs(stream.len()) {
+                turn += 1;
+                for refused in SPOILT.into_iter().chain([&[Spoilt::Room(turn % 260)][..]]) {
+                    let (stream, cuts, refused) = (stream.clone(), vec![from, to], refused.to_vec());
+                    section.check(Handed { kind, stream, cuts, refused, flag: 1, salt: turn as u32 });
+                }
+            }
+        }
+    }
+}
+
+fn silence_streams_section(section: &mut Section) {
+    for _ in 0..section.times(30_000) {
+        let salt = salt(section);
+        let handed = generate::handed(&mut section.random, salt);
+        section.check(handed);
+    }
+}
+
+/// Every series of up to four calls from a few: with silence and without, with room enough and without.
+fn silence_series_section(section: &mut Section) {
+    const PIECES: [&[u8]; 7] =
+        [&[], &[0x7E], &[0x00], &[0x7E, 0x00], &[0x00, 0x7E], &[0x7D, 0x7E, 0x11], &[0x7E, 0x00, 0x7E, 0x7D]];
+    let with = |silence, room, piece: &[u8]| Step::Feed { silence, piece: Hex(piece.to_vec()), room, again: false };
+    let with_room = PIECES.iter().flat_map(|piece| [with(0, 260, piece), with(1, 260, piece)]);
+    let without = [with(0, 259, &[0x7E]), with(1, 259, &[0x7E, 0x00]), with(1, 259, &[])];
+    let calls: Vec<Step> = with_room.chain(without).collect();
+    for length in 1..=4 {
+        for number in 0..calls.len().pow(length) {
+            let steps = (0..length).map(|at| calls[number / calls.len().pow(at) % calls.len()].clone()).collect();
+            section.check(Series { kind: (number % 2) as u8, steps, salt: number as u32 });
+        }
+    }
+}
+
+/// An empty piece on records of every mode and some that are out of range, with every room around 260 and every size
+/// around a record's. What it gives is said here too, by 02 (ix)'s own words: 2, 1, 9 or nothing, and 0 bytes taken.
+fn silence_alone_section(section: &mut Section) {
+    let library = Library { null_for_empty: true };
+    let lengths = [0, 1, 2, 4, 259, 260, 261, 4000, 65_535];
+    for (kind, mode) in (0..3).flat_map(|kind| (0..6).map(move |mode| (kind, mode))) {
+        for (length, silence) in lengths.into_iter().flat_map(|length| [(length, 0), (length, 1), (length, 0x80)]) {
+            let mut whole = generate::head(kind, mode, length, generate::count(&mut section.random));
+            whole.extend(generate::wire_bytes(&mut section.random, STORE));
+            // In a stretch a byte was begun, unless it is plain (mode 1) and has no length yet.
+            let begun = mode > 1 || mode == 1 && length > 0;
+            let good = kind < 2 && mode < 5 && (mode > 0 || length == 0);
+            let rooms = (0..=300).map(|room| (RECORD, room));
+            let sizes = [0, 1, 4, 8, 260, 264, 267].into_iter().flat_map(|size| [(size, 0), (size, 259), (size, 260)]);
+            for (size, room) in rooms.chain(sizes) {
+                let (mut record, mut frame) = (whole[..size].to_vec(), vec![0x55; room]);
+                let fed = library.feed(&mut record, silence, &[], &mut frame);
+                let refusal = match (good && size == RECORD, room >= STORE, silence != 0 && begun) {
+                    (false, _, _) => 2,
+                    (true, false, _) => 1,
+                    (true, true, true) => 9,
+                    (true, true, false) => 0,
+                };
+                let mut expected = whole[..size].to_vec();
+                if silence != 0 && [0, 9].contains(&refusal) {
+                    expected[1..4].fill(0);
+                }
+                let answer = interface::Fed { refusal, ..Default::default() };
+                let what = format!("silence {silence} alone, room {room}, a record of {size}: {:02X?}", &whole[..HEAD]);
+                section.expect(&what, (answer, Hex(expected), Hex(vec![0x55; room])), (fed, Hex(record), Hex(frame)));
+            }
+            for room in [0, 259, 260, 261] {
+                let (record, piece) = (Hex(whole.clone()), Hex(Vec::new()));
+                section.check(Feed { record, silence, piece, room, salt: room as u32 });
+            }
+        }
+    }
+}
+
+/// One call with every number for the silence: 0 is none, and all the others are alike.
+fn silence_numbers_section(section: &mut Section) {
+    for _ in 0..section.times(1_500) {
+        let random = &mut section.random;
+        let record = generate::record(random);
+        let n = random.below(10);
+        let piece = if random.one_in(3) { Vec::new() } else { generate::wire_bytes(random, n) };
+        let (room, salt) = (random.pick(&[0, 259, 260, 260, 260, 300]), salt(section));
+        for silence in 0..=255 {
+            let (record, piece) = (Hex(record.clone()), Hex(piece.clone()));
+            section.check(Feed { record, silence, piece, room, salt });
+        }
+    }
+}
+
+/// Any bytes for a record, silence or none, and any piece: at once and one after the other.
+fn silence_at_once_section(section: &mut Section) {
+    for _ in 0..section.times(150_000) {
+        let random = &mut section.random;
+        let size = random.below(2 * RECORD);
+        let record = Hex(if random.one_in(8) { generate::some_bytes(random, size) } else { generate::record(random) });
+        let n = random.pick(&[0, 1, 1, 2, 5, 12, 40, 300]);
+        let piece = Hex(generate::some_bytes(random, n));
+        let silence = if random.one_in(8) { 0 } else { generate::silence(random) };
+        let room = if random.one_in(4) { random.below(270) } else { 260 };
+        let salt = salt(section);
+        section.check(AtOnce { record, silence, piece, room, salt });
+    }
+}
+
 // ---- What is written is read back
 
 /// The items of one written frame, by the library's receiver.
@@ -677,7 +837,7 @@ fn body_by_library(section: &mut Section, kind: u8, frame: &[u8]) -> Vec<u8> {
     let library = Library { null_for_empty: false };
     let (mut record, mut buffer) = ([0; RECORD], [0; STORE]);
     library.receiver_fresh(kind, &mut record);
-    let fed = library.feed(&mut record, frame, &mut buffer);
+    let fed = library.feed(&mut record, 0, frame, &mut buffer);
     section.expect("a written frame is taken whole", (0, frame.len()), (fed.refusal, fed.taken));
     buffer[..fed.frame_length].to_vec()
 }
@@ -970,6 +1130,13 @@ fn main() {
     report.section("receiver: long runs of noise", noise_runs_section);
     report.section("receiver: the limit of the noise count", noise_limit_section);
     report.section("receiver: asked for its noise", noise_asked_section);
+    report.section("silence: every cut of every short stream", silence_cuts_section);
+    report.section("silence: at every two places", silence_places_section);
+    report.section("silence: in streams of frames", silence_streams_section);
+    report.section("silence: every short series of calls", silence_series_section);
+    report.section("silence: with an empty piece", silence_alone_section);
+    report.section("silence: every number for it", silence_numbers_section);
+    report.section("silence: and bytes at once", silence_at_once_section);
     report.section("requests written and read back", requests_round_trip);
     report.section("replies written and read back", replies_round_trip);
     report.section("replies read, written and read again", replies_read_again);

@@ -1,6 +1,6 @@
 //! Random inputs, bent towards the places where implementations differ.
 
-use crate::cases::{Ask, Series, Step};
+use crate::cases::{Ask, Handed, Series, Spoilt, Step};
 use crate::harness::{Hex, Random};
 use crate::reference::*;
 
@@ -474,23 +474,38 @@ fn frame_room(random: &mut Random) -> usize {
     }
 }
 
-/// Cuts a raw stream into pieces, with marks and calls of short room between them.
+/// A number that says that silence came before a piece: mostly 1, else any but 0.
+pub fn silence(random: &mut Random) -> u8 {
+    match random.below(4) {
+        0 => random.between(1, 255) as u8,
+        1 => random.pick(&[2, 9, 0x7E, 0x80, 0xFE, 0xFF]),
+        _ => 1,
+    }
+}
+
+/// One that says so once in some times, and else 0.
+fn silence_or_none(random: &mut Random, times: usize) -> u8 {
+    if random.one_in(times) {
+        silence(random)
+    } else {
+        0
+    }
+}
+
+/// Cuts a raw stream into pieces, some with silence before them, and with calls of short room between them.
 pub fn steps(random: &mut Random, stream: &[u8], marks: usize) -> Vec<Step> {
     // Long streams mostly go in larger pieces, so that the time is spent on many streams and not on many calls.
     let widths: &[usize] = if stream.len() < 40 { &[1, 2, 3, 8, 40] } else { &[1, 20, 32, 40, 64, 128, 300, 700] };
     let widest = random.pick(widths);
     let mut steps = Vec::new();
-    let mut rest = stream;
-    while !rest.is_empty() {
+    let (mut silence, mut rest) = (silence_or_none(random, marks), stream);
+    while silence != 0 || !rest.is_empty() {
         let (piece, after) = rest.split_at(random.between(0, widest).min(rest.len()));
         let room = frame_room(random);
-        steps.push(Step::Feed { piece: Hex(piece.to_vec()), room, again: !random.one_in(12) });
-        // A piece refused for its room is handed in again, now and then it is not.
+        steps.push(Step::Feed { silence, piece: Hex(piece.to_vec()), room, again: !random.one_in(12) });
+        // A piece refused for its room is handed in again, and so is its silence; now and then they are not.
         if room >= STORE || random.one_in(4) {
-            rest = after;
-        }
-        if random.one_in(marks) {
-            steps.push(Step::Mark);
+            (silence, rest) = (silence_or_none(random, marks), after);
         }
     }
     steps
@@ -514,6 +529,33 @@ pub fn series(random: &mut Random, salt: u32) -> Series {
         steps.insert(random.below(steps.len() + 1), Step::Count(count(random)));
     }
     Series { kind: kind_number, steps, salt }
+}
+
+/// A call that is refused: short room, or a record that is too short or out of its ranges with any room.
+fn spoilt(random: &mut Random) -> Spoilt {
+    let any_room = random.pick(&[0, 259, 260, 260, 300]);
+    match random.below(4) {
+        0 => Spoilt::Short(random.pick(&[0, 4, 8, 264, 267]), any_room),
+        1 => Spoilt::Byte(0, random.between(2, 255) as u8, any_room),
+        2 => Spoilt::Byte(1, random.between(5, 255) as u8, any_room),
+        _ if random.one_in(2) => Spoilt::Room(random.pick(&[0, 1, 4, 258, 259])),
+        _ => Spoilt::Room(random.below(260)),
+    }
+}
+
+/// A stream of a few parts with marks among its bytes, cut at any places, with or without refused calls.
+pub fn handed(random: &mut Random, salt: u32) -> Handed {
+    let kind = random.below(2) as u8;
+    let (parts, n) = (random.between(1, 4), random.pick(&[0, 0, 1, 2, 9, 40]));
+    let mut bytes = noise_bytes(random, n);
+    bytes.extend(stream(random, crate::cases::kind_of(kind), parts));
+    let mut stream = events_of(&bytes);
+    for _ in 0..random.pick(&[1, 1, 2, 3, 8]) {
+        stream.insert(random.below(stream.len() + 1), Event::Mark);
+    }
+    let cuts = (0..random.pick(&[0, 1, 2, 5, 12])).map(|_| random.below(stream.len())).collect();
+    let refused = (0..random.pick(&[0, 0, 1, 2])).map(|_| spoilt(random)).collect();
+    Handed { kind, stream, cuts, refused, flag: silence(random), salt }
 }
 
 /// A record in range that a stream may leave, or one with a field out of range.

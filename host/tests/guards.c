@@ -31,8 +31,8 @@ mfc_written mfc_write_reply(uint8_t address, uint8_t request, uint32_t value, ui
                             const uint8_t *text, size_t n, uint8_t bit7, uint8_t *out, size_t room);
 mfc_reply mfc_read_reply(uint8_t address, uint8_t request, uint32_t value, const uint8_t *body, size_t n);
 uint8_t mfc_receiver_fresh(uint8_t kind, uint8_t *record, size_t size);
-mfc_fed mfc_feed(uint8_t *record, size_t size, const uint8_t *piece, size_t n, uint8_t *frame, size_t room);
-uint8_t mfc_silence(uint8_t *record, size_t size);
+mfc_fed mfc_feed(uint8_t *record, size_t size, uint8_t silence, const uint8_t *piece, size_t n, uint8_t *frame,
+                 size_t room);
 mfc_noise mfc_receiver_noise(const uint8_t *record, size_t size);
 mfc_words mfc_read_words(uint8_t start, const uint8_t *bytes, size_t n, uint16_t *words, size_t room);
 mfc_written mfc_write_words(uint8_t start, const uint16_t *words, size_t n, uint8_t *out, size_t room);
@@ -275,21 +275,43 @@ static void read_bodies(const uint8_t *contents, size_t n)
     take_back(body);
 }
 
-/* One call on the record given; the record comes back changed as the library changes it. */
-static mfc_fed feed(uint8_t *record, const uint8_t *contents, size_t n, uint8_t *copy, size_t room)
+/* One call on so many bytes of the record given, which comes back changed as the library changes it. */
+static mfc_fed feed_in(uint8_t *record, size_t size, uint8_t silence, const uint8_t *contents, size_t n, uint8_t *copy,
+                       size_t room)
 {
     begin("mfc_feed");
-    struct lent kept = lend(0, record, MFC_RECORD_SIZE);
+    struct lent kept = lend(0, record, size);
     struct lent piece = lend(1, contents, n);
     struct lent frame = lend(2, NULL, room);
-    mfc_fed fed = mfc_feed(kept.bytes, MFC_RECORD_SIZE, piece.bytes, n, frame.bytes, room);
+    mfc_fed fed = mfc_feed(kept.bytes, size, silence, piece.bytes, n, frame.bytes, room);
+    int refused = fed.refusal == MFC_REFUSAL_NO_ROOM || fed.refusal == MFC_REFUSAL_BAD_RECORD;
     if (fed.taken > n || fed.frame_length > room) {
         fail("more than was lent");
+    }
+    if ((size < MFC_RECORD_SIZE && fed.refusal != MFC_REFUSAL_BAD_RECORD) || (room < MFC_FRAME_ROOM && !refused)) {
+        fail("a call without a record or without room");
+    }
+    if (refused && size > 0 && memcmp(kept.bytes, record, size) != 0) {
+        fail("a refused call changed the record");
+    }
+    if (fed.taken > 0 && (refused || fed.refusal == MFC_REFUSAL_CUT_BY_SILENCE)) {
+        fail("a byte taken by a call that takes none");
+    }
+    if (silence == 0 && fed.refusal == MFC_REFUSAL_CUT_BY_SILENCE) {
+        fail("cut off without silence");
+    }
+    if (room > 0 && memcmp(frame.bytes + fed.frame_length, pattern + fed.frame_length, room - fed.frame_length) != 0) {
+        fail("room past the frame was changed");
+    }
+    if (n > 0 && memcmp(piece.bytes, contents, n) != 0) {
+        fail("a piece was changed");
     }
     if (fed.place != 0 && fed.refusal != MFC_REFUSAL_BAD_ESCAPE && fed.refusal != MFC_REFUSAL_BARE_CONTROL) {
         fail("a place without a fault");
     }
-    memcpy(record, kept.bytes, MFC_RECORD_SIZE);
+    if (size > 0) {
+        memcpy(record, kept.bytes, size);
+    }
     if (fed.frame_length > 0) {
         memcpy(copy, frame.bytes, fed.frame_length);
     }
@@ -303,15 +325,23 @@ static mfc_fed feed(uint8_t *record, const uint8_t *contents, size_t n, uint8_t 
     return fed;
 }
 
-static void silence(uint8_t *record, size_t size)
+static mfc_fed feed(uint8_t *record, uint8_t silence, const uint8_t *contents, size_t n, uint8_t *copy, size_t room)
 {
-    begin("mfc_silence");
-    struct lent kept = lend(0, record, size);
-    fold(mfc_silence(kept.bytes, size));
-    if (size > 0) {
-        memcpy(record, kept.bytes, size);
+    return feed_in(record, MFC_RECORD_SIZE, silence, contents, n, copy, room);
+}
+
+/* Silence before no bytes: none of them are there to be read, and 9 is all that it may give. */
+static void silence_alone(uint8_t *record, size_t size, size_t room)
+{
+    uint8_t none[MFC_FRAME_ROOM];
+    mfc_fed fed = feed_in(record, size, (uint8_t)(1 + below(255)), NULL, 0, none, room);
+    if (fed.frame_length > 0 || (fed.refusal > MFC_REFUSAL_BAD_RECORD && fed.refusal != MFC_REFUSAL_CUT_BY_SILENCE)) {
+        fail("an item of no bytes");
     }
-    take_back(kept);
+    int dealt_with = fed.refusal == 0 || fed.refusal == MFC_REFUSAL_CUT_BY_SILENCE;
+    if (dealt_with && (record[1] != 0 || record[2] != 0 || record[3] != 0)) {
+        fail("silence left a stretch open");
+    }
 }
 
 /* The count of noise in bytes that are only read. */
@@ -698,7 +728,8 @@ static void writers(uint8_t *frame, size_t *length)
     }
 }
 
-/* Feeds a stream in pieces, with short room and marks between them; each body goes to the readers. */
+/* Feeds a stream in pieces, some with silence before them, and with short room between them; each body goes to the
+ * readers. */
 static void receive(const uint8_t *stream, size_t length)
 {
     uint8_t record[MFC_RECORD_SIZE + 8], frame[MFC_FRAME_ROOM];
@@ -709,10 +740,11 @@ static void receive(const uint8_t *stream, size_t length)
     while (at < length) {
         size_t left = length - at;
         size_t n = below(left < 90 ? left + 1 : 90);
+        uint8_t silence = below(12) == 0 ? (uint8_t)(1 + below(255)) : 0;
         if (below(8) == 0) {
-            feed(record, stream + at, n, frame, below(MFC_FRAME_ROOM));
+            feed(record, silence, stream + at, n, frame, below(MFC_FRAME_ROOM));
         }
-        mfc_fed fed = feed(record, stream + at, n, frame, MFC_FRAME_ROOM);
+        mfc_fed fed = feed(record, silence, stream + at, n, frame, MFC_FRAME_ROOM);
         if (fed.refusal == MFC_REFUSAL_BAD_RECORD) {
             return;
         }
@@ -721,15 +753,18 @@ static void receive(const uint8_t *stream, size_t length)
         }
         at += fed.taken;
         if (below(16) == 0) {
-            silence(record, MFC_RECORD_SIZE);
+            silence_alone(record, MFC_RECORD_SIZE, below(MFC_FRAME_ROOM));
+            silence_alone(record, MFC_RECORD_SIZE, MFC_FRAME_ROOM);
             noise_in(record, MFC_RECORD_SIZE);
         }
     }
     noise_in(record, MFC_RECORD_SIZE + below(8));
     noise_in(record, below(MFC_RECORD_SIZE));
     noise_in(record, 0);
-    silence(record, MFC_RECORD_SIZE - below(4));
-    silence(record, 0);
+    silence_alone(record, MFC_RECORD_SIZE - below(4), MFC_FRAME_ROOM + below(4));
+    silence_alone(record, 0, below(2) ? MFC_FRAME_ROOM : 0);
+    feed_in(record, below(MFC_RECORD_SIZE), (uint8_t)below(2), stream, length, frame, MFC_FRAME_ROOM);
+    feed_in(record, 0, (uint8_t)below(2), NULL, 0, frame, 0);
 }
 
 /* A record in a stretch of any length: the bytes that it counts past the store are not there to be read. */
@@ -742,10 +777,10 @@ static void far_along(void)
     record[1] = (uint8_t)(1 + below(4));
     record[2] = below(2) ? (uint8_t)any() : below(2) ? 0x01 : 0xFF;
     record[3] = (uint8_t)any();
-    feed(record, ends[below(4)], 3, frame, MFC_FRAME_ROOM);
+    feed(record, 0, ends[below(4)], 3, frame, MFC_FRAME_ROOM);
     record[1] = (uint8_t)(1 + below(4));
     record[2] = (uint8_t)any();
-    silence(record, MFC_RECORD_SIZE);
+    feed(record, 1, ends[below(4)], below(4), frame, MFC_FRAME_ROOM);
 }
 
 /* A record outside a stretch whose count of noise is at its limit, or so little below that a piece may take it there. */
@@ -759,8 +794,8 @@ static void much_noise(void)
                             (uint8_t)(before >> 8), (uint8_t)before};
     memcpy(record, head, sizeof head);
     memset(bytes, 0x7D, sizeof bytes);
-    feed(record, bytes, n, frame, MFC_FRAME_ROOM);
-    silence(record, MFC_RECORD_SIZE);
+    feed(record, (uint8_t)below(2), bytes, n, frame, MFC_FRAME_ROOM);
+    silence_alone(record, MFC_RECORD_SIZE, MFC_FRAME_ROOM);
     if (noise_in(record, MFC_RECORD_SIZE) != (n < UINT32_MAX - before ? before + n : UINT32_MAX)) {
         fail("another count of noise");
     }

@@ -32,7 +32,7 @@ pub struct Reply {
     pub text_length: usize,
 }
 
-/// What one feeding call gave; the place is that of the fault with refusals 3 and 4, else 0.
+/// What one call gave; the place is that of the fault with refusals 3 and 4, else 0.
 #[repr(C)]
 #[derive(Clone, Copy, Debug, Default, PartialEq, Eq)]
 pub struct Fed {
@@ -129,8 +129,7 @@ pub trait Interface {
     ) -> Written;
     fn read_reply(&self, address: u8, request: u8, value: u32, body: &[u8]) -> Reply;
     fn receiver_fresh(&self, kind: u8, record: &mut [u8]) -> u8;
-    fn feed(&self, record: &mut [u8], piece: &[u8], frame: &mut [u8]) -> Fed;
-    fn silence(&self, record: &mut [u8]) -> u8;
+    fn feed(&self, record: &mut [u8], silence: u8, piece: &[u8], frame: &mut [u8]) -> Fed;
     fn receiver_noise(&self, record: &[u8]) -> Noise;
     fn read_words(&self, start: u8, bytes: &[u8], words: &mut [u16]) -> Words;
     fn write_words(&self, start: u8, words: &[u16], out: &mut [u8]) -> Written;

@@ -30,8 +30,15 @@ extern "C" {
     ) -> Written;
     fn mfc_read_reply(address: u8, request: u8, value: u32, body: *const u8, n: usize) -> Reply;
     fn mfc_receiver_fresh(kind: u8, record: *mut u8, size: usize) -> u8;
-    fn mfc_feed(record: *mut u8, size: usize, piece: *const u8, n: usize, frame: *mut u8, room: usize) -> Fed;
-    fn mfc_silence(record: *mut u8, size: usize) -> u8;
+    fn mfc_feed(
+        record: *mut u8,
+        size: usize,
+        silence: u8,
+        piece: *const u8,
+        n: usize,
+        frame: *mut u8,
+        room: usize,
+    ) -> Fed;
     fn mfc_receiver_noise(record: *const u8, size: usize) -> Noise;
     fn mfc_read_words(start: u8, bytes: *const u8, n: usize, words: *mut u16, room: usize) -> Words;
     fn mfc_write_words(start: u8, words: *const u16, n: usize, out: *mut u8, room: usize) -> Written;
@@ -123,14 +130,10 @@ impl Interface for Library {
         unsafe { mfc_receiver_fresh(kind, self.write(record), record.len()) }
     }
 
-    fn feed(&self, record: &mut [u8], piece: &[u8], frame: &mut [u8]) -> Fed {
+    fn feed(&self, record: &mut [u8], silence: u8, piece: &[u8], frame: &mut [u8]) -> Fed {
         let (record, size) = (self.write(record), record.len());
         let (frame, room) = (self.write(frame), frame.len());
-        unsafe { mfc_feed(record, size, self.read(piece), piece.len(), frame, room) }
-    }
-
-    fn silence(&self, record: &mut [u8]) -> u8 {
-        unsafe { mfc_silence(self.write(record), record.len()) }
+        unsafe { mfc_feed(record, size, silence, self.read(piece), piece.len(), frame, room) }
     }
 
     fn receiver_noise(&self, record: &[u8]) -> Noise {

@@ -144,10 +144,20 @@ pub fn body_refusal(kind: Kind, body: &[u8]) -> u8 {
 
 // ---- 01, What a stream means
 
-#[derive(Clone, Copy, Debug, PartialEq, Eq)]
+#[derive(Clone, Copy, PartialEq, Eq)]
 pub enum Event {
     Byte(u8),
     Mark,
+}
+
+/// As a stream is written elsewhere: 7E, 00, M.
+impl std::fmt::Debug for Event {
+    fn fmt(&self, f: &mut std::fmt::Formatter) -> std::fmt::Result {
+        match self {
+            Event::Byte(byte) => write!(f, "{byte:02X}"),
+            Event::Mark => write!(f, "M"),
+        }
+    }
 }
 
 /// A frame, or a refusal and the place that it carries: 0 with all but 3 and 4, as in the C answer.
@@ -190,6 +200,20 @@ pub fn noise(events: &[Event]) -> u64 {
     events.split(|event| *event == Event::Mark).map(|part| before_7e(part) as u64).sum()
 }
 
+/// What a call not refused with 1 or 2 adds to the stream. 02 (ix): "its mark to the stream first, then its bytes, none
+/// where the mark gave 9". 01: "its piece up to and including the first byte at which the stream gains an item, else
+/// the whole piece". So it is the shortest part, from the mark on, with which the stream has one item more, or all.
+pub fn adds(kind: Kind, stream: &[Event], silence: bool, piece: &[u8]) -> Vec<Event> {
+    let mut call = vec![Event::Mark; usize::from(silence)];
+    let least = call.len();
+    call.extend(events_of(piece));
+    let before = items(kind, stream).len();
+    let gains = |n: &usize| items(kind, &[stream, &call[..*n]].concat()).len() > before;
+    let added = (least..=call.len()).find(gains).unwrap_or(call.len());
+    call.truncate(added);
+    call
+}
+
 /// 02 (viii): "the stream's noise bytes, or that limit if they are more"
 pub fn counted(noise: u64) -> u32 {
     noise.min(4_294_967_295) as u32
@@ -225,6 +249,19 @@ pub struct Heard {
 impl Heard {
     pub fn nothing(kind: Kind) -> Heard {
         Heard { kind, stretch: None, noise: 0, left: [0; STORE] }
+    }
+
+    /// What is heard of a whole stream, whatever the calls were.
+    pub fn all(kind: Kind, events: &[Event]) -> Heard {
+        let mut heard = Heard::nothing(kind);
+        for event in events {
+            match event {
+                Event::Mark => drop(heard.end(None)),
+                Event::Byte(DELIMITER) => drop(heard.end(Some(Vec::new()))),
+                Event::Byte(byte) => heard.add(&[*byte]),
+            }
+        }
+        heard
     }
 
     /// The count as it is told, and as it stands in the record.
@@ -302,8 +339,18 @@ impl Heard {
         Some(Heard { kind, stretch: if mode == 0 { None } else { Some(raw) }, noise, left })
     }
 
+    /// A call with room enough: its mark is dealt with first; where that cuts off a stretch no byte is taken.
+    pub fn call(&mut self, silence: bool, piece: &[u8]) -> (usize, Option<Item>) {
+        let cut = if silence { self.end(None) } else { Vec::new() };
+        if cut.is_empty() {
+            self.hear(piece)
+        } else {
+            (0, Some(Item::Refused(9, 0)))
+        }
+    }
+
     /// Takes bytes up to and including the one that completes an item, or all, and says how many.
-    pub fn hear(&mut self, piece: &[u8]) -> (usize, Option<Item>) {
+    fn hear(&mut self, piece: &[u8]) -> (usize, Option<Item>) {
         let mut taken = 0;
         while let Some(before) = piece[taken..].iter().position(|&byte| byte == DELIMITER) {
             self.add(&piece[taken..taken + before]);
@@ -315,16 +362,6 @@ impl Heard {
         }
         self.add(&piece[taken..]);
         (piece.len(), None)
-    }
-
-    /// A mark: a non-empty stretch is cut off, and noise begins.
-    pub fn silence(&mut self) -> Option<Item> {
-        let cut = self.end(None);
-        if cut.is_empty() {
-            None
-        } else {
-            Some(Item::Refused(9, 0))
-        }
     }
 
     fn add(&mut self, bytes: &[u8]) {
@@ -341,7 +378,7 @@ impl Heard {
     }
 }
 
-/// A feeding call's answer for the item it gained; a frame is put at the start of the lent buffer.
+/// A call's answer for the item it gained; a frame is put at the start of the lent buffer.
 pub fn answer_of(taken: usize, item: Option<Item>, frame: &mut [u8]) -> Fed {
     match item {
         None => Fed { taken, ..Fed::default() },
@@ -815,7 +852,7 @@ impl Interface for Reference {
         refusal
     }
 
-    fn feed(&self, record: &mut [u8], piece: &[u8], frame: &mut [u8]) -> Fed {
+    fn feed(&self, record: &mut [u8], silence: u8, piece: &[u8], frame: &mut [u8]) -> Fed {
         let mut heard = match Heard::from_record(record) {
             Some(heard) => heard,
             None => return Fed { refusal: 2, ..Fed::default() },
@@ -823,23 +860,9 @@ impl Interface for Reference {
         if frame.len() < STORE {
             return Fed { refusal: 1, ..Fed::default() };
         }
-        let (taken, item) = heard.hear(piece);
+        let (taken, item) = heard.call(silence != 0, piece);
         record[..RECORD].copy_from_slice(&heard.record());
         answer_of(taken, item, frame)
-    }
-
-    fn silence(&self, record: &mut [u8]) -> u8 {
-        let mut heard = match Heard::from_record(record) {
-            Some(heard) => heard,
-            None => return 2,
-        };
-        let item = heard.silence();
-        record[..RECORD].copy_from_slice(&heard.record());
-        if item.is_some() {
-            9
-        } else {
-            0
-        }
     }
 
     fn receiver_noise(&self, record: &[u8]) -> Noise {

@@ -1,7 +1,7 @@
 //! Known answers: the examples of 01, what the makers' papers print, and frames built by hand from their byte tables.
 //! Each is tried on the reference and on the library.
 
-use crate::harness::{Report, Section};
+use crate::harness::{Hex, Report, Section};
 use crate::interface::*;
 use crate::library::Library;
 use crate::reference::{counted, items, noise, Event, Item, Reference, HEAD, PRODUCT_TYPE, RECORD, STORE};
@@ -59,32 +59,28 @@ fn told((items, noise): &Received) -> String {
     names.join(" ")
 }
 
-/// What a receiver that has counted so much noise gives when it is fed pieces of at most a size, each rest again.
-fn received(on: &dyn Interface, kind: u8, count: u32, events: &[Event], widest: usize) -> Received {
+/// What a receiver that has counted so much noise gives when it is fed pieces of at most a size, each rest again. A
+/// mark goes with the piece behind it or, where it is to be alone, with an empty one.
+fn received(on: &dyn Interface, kind: u8, count: u32, events: &[Event], widest: usize, alone: bool) -> Received {
     let (mut record, mut frame, mut items) = ([0; RECORD], [0; STORE], Vec::new());
     assert_eq!(on.receiver_fresh(kind, &mut record), 0);
     record[4..HEAD].copy_from_slice(&count.to_be_bytes());
     let mut rest = events;
     while let Some(event) = rest.first() {
-        if *event == Event::Mark {
-            if on.silence(&mut record) == 9 {
-                items.push(Item::Refused(9, 0));
-            }
-            rest = &rest[1..];
-            continue;
-        }
+        let silence = *event == Event::Mark;
+        rest = &rest[usize::from(silence)..];
         let bytes = rest.iter().map_while(|event| match event {
             Event::Byte(byte) => Some(*byte),
             Event::Mark => None,
         });
-        let piece: Vec<u8> = bytes.take(widest).collect();
-        let fed = on.feed(&mut record, &piece, &mut frame);
+        let piece: Vec<u8> = bytes.take(if silence && alone { 0 } else { widest }).collect();
+        let fed = on.feed(&mut record, u8::from(silence), &piece, &mut frame);
         if fed.frame_length > 0 {
             items.push(Item::Frame(frame[..fed.frame_length].to_vec()));
         } else if fed.refusal > 0 {
             items.push(Item::Refused(fed.refusal, fed.place));
         }
-        if fed.taken == 0 {
+        if fed.taken == 0 && !silence {
             // Nothing taken of a piece that is not empty: no receiver does that, and this loop must end.
             break;
         }
@@ -95,7 +91,7 @@ fn received(on: &dyn Interface, kind: u8, count: u32, events: &[Event], widest: 
 
 /// The body of a wire frame, by the receiver.
 pub fn body_of(on: &dyn Interface, kind: u8, wire: &str) -> Vec<u8> {
-    match &received(on, kind, 0, &events(wire), 4096).0[..] {
+    match &received(on, kind, 0, &events(wire), 4096, false).0[..] {
         [Item::Frame(body)] => body.clone(),
         _ => Vec::new(),
     }
@@ -581,9 +577,11 @@ fn stream(section: &mut Section, kind: u8, count: u32, text: &str, expected: &st
         // The reference rebuilds a long stretch at each call, so there the longest streams go in large pieces only.
         let long = stream.len() > 1000 && name == "reference";
         let widths: &[usize] = if long { &[100_000, 4096] } else { &[100_000, 4096, 16, 7, 1] };
-        for &widest in widths {
-            let found = received(on, kind, count, &stream, widest);
-            let what = format!("{name}, kind {kind}, noise {count}, pieces of {widest}: {text}");
+        let ways: &[bool] = if stream.contains(&Event::Mark) { &[false, true] } else { &[false] };
+        for (&widest, &alone) in widths.iter().flat_map(|widest| ways.iter().map(move |alone| (widest, alone))) {
+            let found = received(on, kind, count, &stream, widest, alone);
+            let marks = if alone { ", each mark alone" } else { "" };
+            let what = format!("{name}, kind {kind}, noise {count}, pieces of {widest}{marks}: {text}");
             section.expect(&what, &defined, &found);
         }
     }
@@ -664,8 +662,10 @@ fn noises(section: &mut Section) {
         for size in [0, 4, 8, 260, 264, 267] {
             let (mut record, mut frame) = (vec![0; size], [0; STORE]);
             let what = format!("{name}, a record of {size} bytes");
-            section.expect(&what, Fed { refusal: 2, ..Fed::default() }, on.feed(&mut record, &[0], &mut frame));
-            section.expect(&what, 2, on.silence(&mut record));
+            for (silence, piece) in [(0, &[0][..]), (1, &[0]), (1, &[])] {
+                let fed = on.feed(&mut record, silence, piece, &mut frame);
+                section.expect(&what, Fed { refusal: 2, ..Fed::default() }, fed);
+            }
             section.expect(&what, Noise { refusal: 2, count: 0 }, on.receiver_noise(&record));
             section.expect(&what, 1, on.receiver_fresh(1, &mut record));
             section.expect(&format!("{what}, after it"), vec![0; size], record);
@@ -678,15 +678,121 @@ fn noises(section: &mut Section) {
         // With refusal 1 nothing is taken, and so nothing is counted.
         let (fives, mut frame) = (hex("00 00 00 00 00 00 00 05 00*260"), [0; STORE - 1]);
         record.copy_from_slice(&fives);
-        let fed = on.feed(&mut record, &[0, 0, 0], &mut frame);
-        section.expect(&format!("{name}, short room"), Fed { refusal: 1, ..Fed::default() }, fed);
+        for silence in [0, 1] {
+            let fed = on.feed(&mut record, silence, &[0, 0, 0], &mut frame);
+            section.expect(&format!("{name}, short room"), Fed { refusal: 1, ..Fed::default() }, fed);
+        }
         section.expect(&format!("{name}, short room"), fives, record.to_vec());
         section.expect(&format!("{name}, short room"), Noise { refusal: 0, count: 5 }, on.receiver_noise(&record));
     }
 }
 
-/// By docs/RECORD.md, 02 (vii) and 02 (viii), counted by hand: the first bytes of a record, its count of noise 0 where
-/// they are four, the byte that its store is full of, a piece; the refusal, its place, and these bytes after the call.
+/// What a call hands in, from text: M before the bytes says that silence came before them.
+fn handed(text: &str) -> (bool, Vec<u8>) {
+    match text.strip_prefix('M') {
+        Some(bytes) => (true, hex(bytes)),
+        None => (false, hex(text)),
+    }
+}
+
+/// By 02 (ix), a receiver of requests from its fresh record: each call, the room lent, what it gives and the bytes that
+/// it takes; then the first bytes of the record, with its count of noise. Every frame is 00 45 00 BA.
+type Calls = (&'static [(&'static str, usize, &'static str, usize)], &'static str);
+
+#[rustfmt::skip]
+const CALLS: &[Calls] = &[
+    // "if that gives refusal 9, the call takes no bytes and the rest is handed in without the flag"
+    (&[("7E 00 45", 260, "", 3), ("M 7E 00 45 00 BA 7E", 260, "9", 0), ("7E 00 45 00 BA 7E", 260, "F", 6)],
+     "00 01 00 00 00 00 00 00"),
+    (&[("7E 00 45", 260, "", 3), ("M 00 BA 7E 00 45 00 BA 7E", 260, "9", 0), ("00 BA 7E 00 45 00 BA 7E", 260, "F", 8)],
+     "00 01 00 00 00 00 00 02"),
+    (&[("7E 7D", 260, "", 2), ("M 7E", 260, "9", 0), ("7E", 260, "", 1)], "00 01 00 00 00 00 00 00"),
+    (&[("7E 11", 260, "", 2), ("M 11", 260, "9", 0), ("11", 260, "", 1)], "00 00 00 00 00 00 00 01"),
+    (&[("7E 7D 41", 260, "", 3), ("M 7E", 260, "9", 0)], "00 00 00 00 00 00 00 00"),
+    (&[("7E 00 45 00 BA", 260, "", 5), ("M 7E", 260, "9", 0), ("7E", 260, "", 1)], "00 01 00 00 00 00 00 00"),
+    // A mark that cuts nothing off: the piece is taken at once, as noise up to its first 7E
+    (&[("M 7E 00 45 00 BA 7E", 260, "F", 6)], "00 01 00 00 00 00 00 00"),
+    (&[("7E", 260, "", 1), ("M 7E 00 45 00 BA 7E", 260, "F", 6)], "00 01 00 00 00 00 00 00"),
+    (&[("7E 00 45 00 BA 7E", 260, "F", 6), ("M 7E 00 45 00 BA 7E", 260, "F", 6)], "00 01 00 00 00 00 00 00"),
+    (&[("7E", 260, "", 1), ("M 00 45 00 BA 7E", 260, "", 5)], "00 01 00 00 00 00 00 04"),
+    (&[("7E 00 45 00 BA 7E", 260, "F", 6), ("M 00 45 00 BA 7E 11 7E", 260, "4@0", 7)], "00 01 00 00 00 00 00 04"),
+    (&[("M 11 7E 11 7E 00 45", 260, "4@0", 4), ("00 45", 260, "", 2)], "00 01 00 02 00 00 00 01"),
+    (&[("00 7D", 260, "", 2), ("M 5E 7E", 260, "", 2)], "00 01 00 00 00 00 00 03"),
+    // "An empty piece may carry the flag too", "takes 0 and gives what its mark gives, 9 or nothing"
+    (&[("M", 260, "", 0)], "00 00 00 00 00 00 00 00"),
+    (&[("7E 00", 260, "", 2), ("M", 260, "9", 0), ("M", 260, "", 0)], "00 00 00 00 00 00 00 00"),
+    (&[("7E 7D", 260, "", 2), ("M", 300, "9", 0), ("5E 7E", 300, "", 2)], "00 01 00 00 00 00 00 01"),
+    (&[("7E 13", 260, "", 2), ("M", 260, "9", 0)], "00 00 00 00 00 00 00 00"),
+    (&[("7E", 260, "", 1), ("M", 260, "", 0)], "00 00 00 00 00 00 00 00"),
+    (&[("7E", 260, "", 1), ("M", 260, "", 0), ("00 45 00 BA 7E", 260, "", 5)], "00 01 00 00 00 00 00 04"),
+    (&[("7E 7E 7E", 260, "", 3), ("M", 260, "", 0), ("11", 260, "", 1)], "00 00 00 00 00 00 00 01"),
+    (&[("7E 00 45 00 BA 7E", 260, "F", 6), ("M", 260, "", 0)], "00 00 00 00 00 00 00 00"),
+    // "it asks for the 260 bytes like any other call"
+    (&[("M", 259, "1", 0)], "00 00 00 00 00 00 00 00"),
+    (&[("M", 0, "1", 0)], "00 00 00 00 00 00 00 00"),
+    (&[("7E", 260, "", 1), ("M", 259, "1", 0)], "00 01 00 00 00 00 00 00"),
+    // "document 01's sentence on empty pieces stays for those without the flag"
+    (&[("7E 00 45", 260, "", 3), ("", 260, "", 0), ("00 BA 7E", 260, "F", 3)], "00 01 00 00 00 00 00 00"),
+    (&[("7E 00 45", 260, "", 3), ("", 259, "1", 0), ("00 BA 7E", 260, "F", 3)], "00 01 00 00 00 00 00 00"),
+    // "A refused call (1 or 2) has not dealt with the mark": it is still to be dealt with, and else the stretch goes on
+    (&[("7E 00", 260, "", 2), ("M", 259, "1", 0), ("M", 260, "9", 0)], "00 00 00 00 00 00 00 00"),
+    (&[("7E 00 45", 260, "", 3), ("M", 259, "1", 0), ("00 BA 7E", 260, "F", 3)], "00 01 00 00 00 00 00 00"),
+    (&[("7E 00 45", 260, "", 3), ("M 00 BA 7E", 259, "1", 0), ("00 BA 7E", 260, "F", 3)], "00 01 00 00 00 00 00 00"),
+    (&[("7E", 260, "", 1), ("M 00", 0, "1", 0), ("00 45 00 BA 7E", 260, "F", 5)], "00 01 00 00 00 00 00 00"),
+    (&[("7E 00", 260, "", 2), ("M 7E 00", 259, "1", 0), ("M 7E 00", 260, "9", 0), ("7E 00", 260, "", 2)],
+     "00 01 00 01 00 00 00 00"),
+    (&[("M 7E 00 45 00 BA 7E", 259, "1", 0), ("M 7E 00 45 00 BA 7E", 260, "F", 6)], "00 01 00 00 00 00 00 00"),
+];
+
+fn calls(section: &mut Section) {
+    // Any number but 0 says that there was silence.
+    for silence in [1, 2, 9, 0x7E, 0x80, 0xFF] {
+        for ((name, on), (calls, after)) in both().into_iter().flat_map(|on| CALLS.iter().map(move |row| (on, row))) {
+            let mut record = [0; RECORD];
+            assert_eq!(on.receiver_fresh(0, &mut record), 0);
+            for (call, room, gives, taken) in *calls {
+                let (flag, piece) = handed(call);
+                let (before, mut frame, mut expected_frame) = (record, vec![0xEE; *room], vec![0xEE; *room]);
+                let found = on.feed(&mut record, if flag { silence } else { 0 }, &piece, &mut frame);
+                let what = format!("{name}, {calls:?} with M as {silence}: {call} in room of {room}");
+                let mut expected = Fed { taken: *taken, ..Fed::default() };
+                match gives.split_once('@').unwrap_or((*gives, "0")) {
+                    ("", _) => {}
+                    ("F", _) => {
+                        expected.frame_length = 4;
+                        expected_frame[..4].copy_from_slice(&hex("00 45 00 BA"));
+                    }
+                    (refusal, place) => {
+                        expected.refusal = refusal.parse().expect("a refusal");
+                        expected.place = place.parse().expect("a place");
+                    }
+                }
+                section.expect(&what, expected, found);
+                section.expect(&format!("{what}, its frame"), Hex(expected_frame), Hex(frame));
+                if expected.refusal == 1 {
+                    section.expect(&format!("{what}, its record"), Hex(before.to_vec()), Hex(record.to_vec()));
+                }
+            }
+            section.expect(&format!("{name}, after {calls:?}"), Hex(hex(after)), Hex(record[..HEAD].to_vec()));
+        }
+    }
+    // A record out of its ranges comes before short room, whatever is handed in; all of it comes back as it was.
+    for text in ["02 01 00 01 00*264", "00 05 00 01 00*264", "00 00 00 01 00*264", "00 01 00 01 00*263", ""] {
+        for ((name, on), call) in both().into_iter().flat_map(|on| ["M", "M 7E 00", "", "00"].map(|call| (on, call))) {
+            for room in [0, 259, 260] {
+                let (mut record, (flag, piece), mut frame) = (hex(text), handed(call), vec![0xEE; room]);
+                let found = on.feed(&mut record, u8::from(flag), &piece, &mut frame);
+                let what = format!("{name}, the record {text}: {call} in room of {room}");
+                section.expect(&what, Fed { refusal: 2, ..Fed::default() }, found);
+                section.expect(&what, (Hex(hex(text)), Hex(vec![0xEE; room])), (Hex(record), Hex(frame)));
+            }
+        }
+    }
+}
+
+/// By docs/RECORD.md, 02 (vii), (viii) and (ix), counted by hand: the first bytes of a record, its count of noise 0
+/// where they are four, the byte that its store is full of, a piece, M before it for silence; the refusal, its place,
+/// and these bytes after the call.
 #[rustfmt::skip]
 const RECORDS: &[(&str, u8, &str, u8, u16, &str)] = &[
     // Nothing stored, one byte, and one that was received as two
@@ -756,6 +862,32 @@ const RECORDS: &[(&str, u8, &str, u8, u16, &str)] = &[
     ("00 00 00 01 01 02 03 04", 0x00, "00 00", 2, 0, "00 00 00 01 01 02 03 04"),
     ("02 00 00 00 01 02 03 04", 0x00, "00 00", 2, 0, "02 00 00 00 01 02 03 04"),
     ("00 05 00 00 FF FF FF FF", 0x00, "00 00", 2, 0, "00 05 00 00 FF FF FF FF"),
+    // Silence outside and in an empty stretch: the piece is noise up to its first 7E
+    ("00 00 00 00", 0x00, "M", 0, 0, "00 00 00 00"),
+    ("01 00 00 00", 0x00, "M 00 7E", 0, 0, "01 01 00 00 00 00 00 01"),
+    ("01 01 00 00", 0x00, "M", 0, 0, "01 00 00 00"),
+    ("00 01 00 00", 0x7D, "M 11 7E", 0, 0, "00 01 00 00 00 00 00 01"),
+    ("00 01 00 00", 0x00, "M 00 7E 11 7E", 4, 0, "00 01 00 00 00 00 00 01"),
+    ("00 01 00 00 FF FF FF FE", 0x00, "M 00 00 7E 00", 0, 0, "00 01 00 01 FF FF FF FF"),
+    // Silence in a stretch with a byte, also where that is a 7D or a fault: 9, and no byte is taken or counted
+    ("00 01 00 01", 0x00, "M", 9, 0, "00 00 00 00"),
+    ("01 01 00 01", 0x00, "M 7E", 9, 0, "01 00 00 00"),
+    ("00 02 00 00", 0x00, "M", 9, 0, "00 00 00 00"),
+    ("00 02 00 00", 0x00, "M 5E 7E", 9, 0, "00 00 00 00"),
+    ("00 03 00 00", 0x00, "M 7E", 9, 0, "00 00 00 00"),
+    ("01 04 00 00", 0x00, "M 7E", 9, 0, "01 00 00 00"),
+    ("00 03 00 02", 0x11, "M 7E", 9, 0, "00 00 00 00"),
+    ("01 04 01 2C", 0x00, "M 00 7D 00 7E", 9, 0, "01 00 00 00"),
+    ("00 01 01 04", 0x00, "M 7E", 9, 0, "00 00 00 00"),
+    ("00 01 FF FF", 0x00, "M 00", 9, 0, "00 00 00 00"),
+    ("00 04 FF FF", 0x00, "M", 9, 0, "00 00 00 00"),
+    ("00 01 00 01 01 02 03 04", 0x00, "M 00 00", 9, 0, "00 00 00 00 01 02 03 04"),
+    ("01 02 00 01 FF FF FF FF", 0x00, "M 00 00", 9, 0, "01 00 00 00 FF FF FF FF"),
+    // Out of their ranges with silence too
+    ("00 00 00 01", 0x00, "M", 2, 0, "00 00 00 01"),
+    ("01 00 FF FF", 0x00, "M 7E", 2, 0, "01 00 FF FF"),
+    ("02 01 00 01", 0x00, "M", 2, 0, "02 01 00 01"),
+    ("00 05 00 01 01 02 03 04", 0x00, "M 11 7E", 2, 0, "00 05 00 01 01 02 03 04"),
 ];
 
 fn records(section: &mut Section) {
@@ -766,10 +898,10 @@ fn records(section: &mut Section) {
     };
     for (before, stored, piece, refusal, place, after) in RECORDS {
         for (name, on) in both() {
-            let (mut record, piece_bytes, mut frame) = ([*stored; RECORD], hex(piece), [0; STORE]);
+            let (mut record, (silence, bytes), mut frame) = ([*stored; RECORD], handed(piece), [0; STORE]);
             record[..HEAD].copy_from_slice(&head(before));
-            let fed = on.feed(&mut record, &piece_bytes, &mut frame);
-            let taken = if *refusal == 2 { 0 } else { piece_bytes.len() };
+            let fed = on.feed(&mut record, u8::from(silence), &bytes, &mut frame);
+            let taken = if [2, 9].contains(refusal) { 0 } else { bytes.len() };
             let expected = Fed { refusal: *refusal, place: *place, frame_length: 0, taken };
             let what = format!("{name}, a record {before} with {stored:02X} stored, fed {piece}");
             section.expect(&what, expected, fed);
@@ -1011,6 +1143,7 @@ pub fn run(report: &mut Report) {
     report.section("vectors: texts and orders", texts);
     report.section("vectors: streams", streams);
     report.section("vectors: noise", noises);
+    report.section("vectors: silence and bytes in one call", calls);
     report.section("vectors: records", records);
     report.section("vectors: checksum and CRC", sums);
     report.section("vectors: words", words);

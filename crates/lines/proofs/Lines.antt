@@ -2,20 +2,20 @@
 use Prim.Native.Nat.{ℕ, zero, suc, _+_, _≤_}
 use native.Mathlib.Omega.{arith}
 use mathlib.Core.Path.{_≡_, refl, sym, ap, subst, _∙_}
-use mathlib.Core.Bool.{Bool, true, false, not}
+use mathlib.Core.Bool.{Bool, true, false, cond}
 use mathlib.Core.List.{List, [], _∷_}
-use lib.Dec.{eqb}
 use lib.ListN.{length, getD, take}
-use Rattle.refusal.specs.Refusals.{numberIn, numberOf, paper, served, refused}
+use Rattle.refusal.specs.Refusals.{number, paper, served, refused}
 use Rattle.refusal.specs.declared.Refusal.{Refusal}
 use Rattle.refusal.specs.Room.{overlay}
+use Rattle.refusal.proofs.Order.{refused-not-served}
 use Rattle.refusal.proofs.Room.{overlay-nothing}
 use Rattle.receiver.specs.declared.Answer.{Answer}
 use Rattle.receiver.specs.declared.Answer.the-variants as answer
-use Rattle.receiver.specs.declared.Quiet.{Quiet}
-use Rattle.receiver.specs.Record.{Record, inRange, pending}
-use Rattle.receiver.specs.Calls.{Said, nothing, gave, Outcome, paperAnswer, paperQuiet, silenceOf}
-use Rattle.receiver.proofs.Cases.{silence-range, silence-cut, silence-idle}
+use Rattle.receiver.specs.declared.NoiseCount.{NoiseCount}
+use Rattle.receiver.specs.declared.NoiseCount.the-variants as counted
+use Rattle.receiver.specs.Record.{Record, inRange}
+use Rattle.receiver.specs.Calls.{paperAnswer, paperNoise, noiseOf}
 use Rattle.lines.specs.Text.{frameLine, refusedLine}
 use Rattle.lines.specs.Program.{lineOf}
 use Rattle.lines.specs.Private.{saidLine}
@@ -62,36 +62,20 @@ module _ (given : Answer) (frame room : List ℕ) (place : ℕ) where
   unfolding lineOf
   said-refused {why} {r} {after} e h = subst (λ (x : Answer). Laid r after room place (saidLine (paperAnswer x) frame)) (sym e) h
 
--- whether a call is refused with 2
-abbrev says2 : Said → Bool
-says2 nothing = false
-says2 (gave (served n)) = false
-says2 (gave (refused n)) = eqb (numberIn n) 2
+-- the two arms of `in_range`
+module _ (r : Record) {n : NoiseCount} (e : paperNoise n ≡ noiseOf r) where
+  pub in-range-told : {k : ℕ} → n ≡ counted.Count k → true ≡ inRange r
+  unfolding noiseOf
+  in-range-told {k} is = go (inRange r) (sym (ap paperNoise is) ∙ e)
+    where
+      go : (t : Bool) → served k ≡ cond t (served (r .noise)) (refused (number 2)) → true ≡ t
+      go true f = refl
+      go false f = absurd (refused-not-served (sym f))
 
-quiet-2 : (r : Record) → says2 (silenceOf r .result .said) ≡ not (inRange r)
-quiet-2 r = go (inRange r) (pending r) refl refl
-  where
-    go : (t p : Bool) → inRange r ≡ t → pending r ≡ p → says2 (silenceOf r .result .said) ≡ not (inRange r)
-    go true true e f = ap (λ (o : Outcome). says2 (o .result .said)) (silence-cut r e f) ∙ sym (ap not e)
-    go true false e f = ap (λ (o : Outcome). says2 (o .result .said)) (silence-idle r e f) ∙ sym (ap not e)
-    go false p e f = ap (λ (o : Outcome). says2 (o .result .said)) (silence-range r e) ∙ sym (ap not e)
-
-not-not : (a b : Bool) → a ≡ not b → not a ≡ b
-not-not a true e = rw e
-not-not a false e = rw e
-
--- the three arms of `in_range`
-module _ (q : Quiet) (store : List ℕ) (r : Record) (e : paperQuiet q store ≡ silenceOf r) where
-  quiet-says : {is : Answer} → q .answer ≡ is → not (says2 (paperAnswer is)) ≡ inRange r
-  quiet-says {is} f =
-      not-not (says2 (paperAnswer is)) (inRange r)
-      (sym (ap (λ (x : Answer). says2 (paperAnswer x)) f) ∙ ap (λ (o : Outcome). says2 (o .result .said)) e ∙ quiet-2 r)
-
-  pub quiet-nothing : q .answer ≡ answer.Nothing → true ≡ inRange r
-  quiet-nothing f = quiet-says f
-
-  pub quiet-frame : {n : ℕ} → q .answer ≡ answer.Frame n → true ≡ inRange r
-  quiet-frame f = quiet-says f
-
-  pub quiet-refused : {why : Refusal} {n : ℕ} → q .answer ≡ answer.Refused why → n ≡ numberOf why → not (eqb n 2) ≡ inRange r
-  quiet-refused {why} {n} f is = ap (λ (k : ℕ). not (eqb k 2)) is ∙ quiet-says f
+  pub in-range-refused : {why : Refusal} → n ≡ counted.Refused why → false ≡ inRange r
+  unfolding noiseOf
+  in-range-refused {why} is = go (inRange r) (sym (ap paperNoise is) ∙ e)
+    where
+      go : (t : Bool) → refused (paper why) ≡ cond t (served (r .noise)) (refused (number 2)) → false ≡ t
+      go true f = absurd (refused-not-served f)
+      go false f = refl

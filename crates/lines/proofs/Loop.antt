@@ -17,7 +17,7 @@ use Rattle.shdlc.proofs.Stream.{map-append}
 use Rattle.receiver.specs.declared.Fed.{Fed}
 use Rattle.receiver.specs.Record.{Record, held, inRange, opened, pending, itemOf, nextByte, nextRecord, recordFrom}
 use Rattle.receiver.specs.Calls.{Outcome, paperAnswer, paperFed, saidOf, bufferOf, completed, unfinished, closes, Scan, scanFrom, fedBy, feedOf}
-use Rattle.receiver.proofs.Cases.{range-few, feed-scan, few-scan}
+use Rattle.receiver.proofs.Cases.{range-few, feed-heard, few-scan}
 use Rattle.receiver.proofs.EverySeries.{record-append}
 use Rattle.lines.specs.Program.{lineOf}
 use Rattle.lines.specs.Listing.{shown, shownBy, fitting}
@@ -206,14 +206,14 @@ module _ (r : Record) (piece frame out : List ℕ) (i o : ℕ) where
 
   -- a turn of the loop
   pub turn : (f : Fed) {store buffer room : List ℕ} {p : ℕ} → i < length piece → inRange r ≡ true → 260 ≤ length frame → o ≤ length out
-      → 24 ≤ length out - o → paperFed f store buffer ≡ feedOf r (take (length piece - i) (drop i piece)) frame
+      → 24 ≤ length out - o → paperFed f store buffer ≡ feedOf r false (take (length piece - i) (drop i piece)) frame
       → Laid p room out o (saidLine (paperAnswer (f .answer)) buffer) → length room ≡ length out → Turned f store room p
   turn f {store} {buffer} {room} {p} here range size fits free fed laid kept =
       let rest : List ℕ = drop i piece in
       let s : Scan = scanFrom 0 r rest in
       let q = scans (length out - o) free rest 0 r in
       let is : paperFed f store buffer ≡ fedBy s frame =
-      fed ∙ ap (λ (l : List ℕ). feedOf r l frame) (rest-slice piece i) ∙ feed-scan r rest frame range size in
+      fed ∙ ap (λ (l : List ℕ). feedOf r false l frame) (rest-slice piece i) ∙ feed-heard r false rest frame range size in
       let passed : f .taken ≡ 0 + q .n =
       ap (λ (x : Outcome). x .result .taken) is ∙ fed-taken (s .closed) (s .before) (s .taken) frame ∙ q .count in
       let n-is : f .taken ≡ q .n = omega (arith, passed) in

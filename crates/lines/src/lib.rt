@@ -1,5 +1,6 @@
 // The lines that the program puts out of a stream's items.
 use receiver::Answer;
+use receiver::NoiseCount;
 use receiver::Receiver;
 use refusal::Refusal;
 use shdlc::Written;
@@ -148,16 +149,13 @@ fn put_answer(answer: Answer, frame: &[u8], out: &mut [u8], place: usize) -> usi
     }
 }
 
-// Whether a record is within its ranges: a silence mark would be refused with 2 where it is not. No mark is placed.
+// Whether a record is within its ranges: asking for its noise count is refused where it is not.
 fn in_range(r: Receiver, store: &[u8]) -> bool
     ensures { λ b. ⌜ b ≡ inRange (held r (now (store .entry))) ⌝ }
 {
-    let quiet = receiver::silence(r, store);
-    let answer = quiet.answer;
-    match answer {
-        Answer::Nothing => true,
-        Answer::Frame(_) => true,
-        Answer::Refused(why) => refusal::number(why) != 2,
+    match receiver::noise(r, store) {
+        NoiseCount::Count(_) => true,
+        NoiseCount::Refused(_) => false,
     }
 }
 
@@ -187,7 +185,7 @@ fn list(from: Receiver, store: &mut [u8], piece: &[u8], out: &mut [u8], place: u
         if out.len() - filled < 24 {
             break;
         }
-        let fed = receiver::feed(r, store, &piece[taken..], &mut frame);
+        let fed = receiver::feed(r, store, false, &piece[taken..], &mut frame);
         let next = fed.receiver;
         let more = fed.taken;
         let answer = fed.answer;

@@ -17,7 +17,7 @@ use Rattle.shdlc.specs.declared.Kind.the-variants.{Request, Reply}
 use Rattle.receiver.specs.declared.Mode.{Mode}
 use Rattle.receiver.specs.declared.Mode.the-variants.{Outside, Plain, Escaped, BadEscape, BareControl}
 use Rattle.receiver.specs.Record.{Record, numberOfMode, lengthInRange, inRange}
-use Rattle.mfc.specs.Receivers.{numberOfKind, kindAt, modeAt, recordSize, bytesOf, storeIn, fieldsIn, recordIn, feedAs, feedRecord, silenceAs, silenceRecord, noiseAs, noiseRecord}
+use Rattle.mfc.specs.Receivers.{numberOfKind, kindAt, modeAt, recordSize, bytesOf, storeIn, fieldsIn, recordIn, feedAs, feedRecord, noiseAs, noiseRecord}
 
 pub kind-back : (kind : Kind) → kindAt (numberOfKind kind) ≡ some kind
 kind-back Request = refl
@@ -78,13 +78,10 @@ module _ (lent : List ℕ) (r : Record) (long : recordSize ≤ length lent) (goo
   unfolding recordIn
   found-again = rw (fields-again, good)
 
-  pub feed-again : (piece frame : List ℕ) → feedRecord (overlay lent 0 (bytesOf r)) piece frame ≡ feedAs (some r) (overlay lent 0 (bytesOf r)) piece frame
+  pub feed-again : (silence : Bool) (piece frame : List ℕ)
+      → feedRecord (overlay lent 0 (bytesOf r)) silence piece frame ≡ feedAs (some r) (overlay lent 0 (bytesOf r)) silence piece frame
   unfolding feedRecord
-  feed-again piece frame = ap (λ (o : Option Record). feedAs o (overlay lent 0 (bytesOf r)) piece frame) found-again
-
-  pub silence-again : silenceRecord (overlay lent 0 (bytesOf r)) ≡ silenceAs (some r) (overlay lent 0 (bytesOf r))
-  unfolding silenceRecord
-  silence-again = ap (λ (o : Option Record). silenceAs o (overlay lent 0 (bytesOf r))) found-again
+  feed-again silence piece frame = ap (λ (o : Option Record). feedAs o (overlay lent 0 (bytesOf r)) silence piece frame) found-again
 
   pub noise-again : noiseRecord (overlay lent 0 (bytesOf r)) ≡ noiseAs (some r)
   unfolding noiseRecord

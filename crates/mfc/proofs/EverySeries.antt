@@ -1,8 +1,8 @@
 -- Demand 3 over the record's bytes: every series of calls from C gives what its stream says. Assumes nothing.
-use mathlib.Core.Path.{_≡_, refl, sym, ap, _∙_}
-use mathlib.Core.Bool.{Bool, true, false, cond, _||_, false≢true}
+use mathlib.Core.Path.{_≡_, refl, sym, ap, subst, _∙_}
+use mathlib.Core.Bool.{Bool, true, false, cond, _&&_, _||_, false≢true}
 use mathlib.Core.List.{List, [], _∷_, _++_, map}
-use Prim.Native.Nat.{ℕ, _+_, _≤_}
+use Prim.Native.Nat.{ℕ, _+_, _≤_, _<_}
 use native.Mathlib.Omega.{arith}
 use borrow.Author.Tests.{le-ltb, ltb-true, eqb-true, ne-eqb}
 use lib.Dec.{eqb, ltb}
@@ -11,16 +11,16 @@ use lib.Seq.{drop-append-seam, take-at}
 use Rattle.refusal.specs.Refusals.{number, _carrying_, isPlaced, served, refused}
 use Rattle.refusal.specs.Room.{overlay}
 use Rattle.shdlc.specs.declared.Kind.{Kind}
-use Rattle.shdlc.specs.Stream.{Event, items, noise}
-use Rattle.receiver.specs.Record.{Record, inRange, limited, pending, fresh, recordOf}
-use Rattle.receiver.specs.Calls.{Said, nothing, gave, Result, Outcome, feedOf, silenceOf}
-use Rattle.receiver.specs.Series.{Call, feeding, silence, outcome, results, recordAfter, reported, reports, streamOf, expectedFrom}
-use Rattle.receiver.proofs.Cases.{feed-room, quiet, silence-said}
+use Rattle.shdlc.specs.Stream.{Event, byte, items, noise}
+use Rattle.receiver.specs.Record.{Record, inRange, limited, fresh, recordOf}
+use Rattle.receiver.specs.Calls.{Said, nothing, gave, Result, Outcome}
+use Rattle.receiver.specs.Series.{Call, marks, outcome, results, recordAfter, reported, reports, turnedAway, handed, leftBy, HandsIn, streamOf, expectedFrom}
+use Rattle.receiver.proofs.Cases.{feed-room}
 use Rattle.receiver.proofs.EverySeries.{Sayable, AllSayable, all-sayable, demand3}
 use Rattle.mfc.specs.declared.answers.MfcFed.{MfcFed}
-use Rattle.mfc.specs.Receivers.{numberOfKind, recordSize, bytesOf, fed, refusalIn, freshRecord, untouched, feedRecord, noiseTold, noiseRecord}
-use Rattle.mfc.specs.Series.{marked, called, answers, bytesAfter, told, heard, heardIn, NoneTold2, begun, laidIn, SeriesOverBytes}
-use Rattle.mfc.proofs.Carried.{kind-back, in-range, feed-again, silence-again, noise-again}
+use Rattle.mfc.specs.Receivers.{numberOfKind, recordSize, bytesOf, fed, freshRecord, untouched, noiseTold, noiseRecord}
+use Rattle.mfc.specs.Series.{called, answers, bytesAfter, told, refusedTold, heard, heardIn, NoneTold2, leftTold, HandsOver, begun, laidIn, SeriesOverBytes}
+use Rattle.mfc.proofs.Carried.{kind-back, in-range, feed-again, noise-again}
 
 -- a record's bytes over another's: what is left is the last
 over-again : (lent xs ys : List ℕ) → length xs ≡ length ys → overlay (overlay lent 0 xs) 0 ys ≡ overlay lent 0 ys
@@ -39,15 +39,6 @@ same-size r s g h = omega (arith, in-range r g .0, in-range s h .0)
 abbrev onRecord : List ℕ → Outcome → MfcFed × List ℕ × List ℕ
 onRecord lent o = (fed (o .result .said) (o .result .taken), overlay lent 0 (bytesOf (o .leaves)), o .result .buffer)
 
--- a mark answers its number alone, which says as much
-abbrev markOn : List ℕ → Outcome → MfcFed × List ℕ × List ℕ
-markOn lent o = marked (refusalIn (o .result .said), overlay lent 0 (bytesOf (o .leaves)))
-
-mark-told : (lent : List ℕ) (r : Record) (t : Bool)
-    → markOn lent (quiet r (cond t (gave (refused (number 9))) nothing)) ≡ onRecord lent (quiet r (cond t (gave (refused (number 9))) nothing))
-mark-told lent r true = refl
-mark-told lent r false = refl
-
 -- a call on a record's bytes is the call on the record
 module _ (lent : List ℕ) (long : recordSize ≤ length lent) (r : Record) (good : inRange r ≡ true) where
   abbrev bytes : List ℕ
@@ -59,18 +50,12 @@ module _ (lent : List ℕ) (long : recordSize ≤ length lent) (r : Record) (goo
       (over-again lent (bytesOf r) (bytesOf (o .leaves)) (same-size r (o .leaves) good h))
 
   on-call : (call : Call) → inRange (outcome r call .leaves) ≡ true → called bytes call ≡ onRecord lent (outcome r call)
-  on-call (feeding piece frame) h = feed-again lent r long good piece frame ∙ go (ltb (length frame) 260) refl
+  on-call call h = feed-again lent r long good (call .silence) (call .piece) (call .buffer) ∙ go (ltb (length (call .buffer)) 260) refl
     where
-      go : (t : Bool) → ltb (length frame) 260 ≡ t
-          → cond t (untouched 1 bytes frame) (onRecord bytes (feedOf r piece frame)) ≡ onRecord lent (feedOf r piece frame)
-      go true e = ap (onRecord lent) (sym (feed-room r piece frame good (ltb-true _ _ e)))
-      go false e = put-over (feedOf r piece frame) h
-  on-call silence h =
-      ap marked (silence-again lent r long good)
-      ∙ ap (markOn bytes) (silence-said r good)
-      ∙ mark-told bytes r (pending r)
-      ∙ ap (onRecord bytes) (sym (silence-said r good))
-      ∙ put-over (silenceOf r) h
+      go : (t : Bool) → ltb (length (call .buffer)) 260 ≡ t
+          → cond t (untouched 1 bytes (call .buffer)) (onRecord bytes (outcome r call)) ≡ onRecord lent (outcome r call)
+      go true e = ap (onRecord lent) (sym (feed-room r (call .silence) (call .piece) (call .buffer) good (ltb-true _ _ e)))
+      go false e = put-over (outcome r call) h
 
 placed-from-3 : (k : ℕ) → isPlaced k ≡ true → 3 ≤ k
 placed-from-3 k = go (eqb k 3) (eqb k 4) refl refl
@@ -88,7 +73,7 @@ heard-said (gave (served n)) taken buffer h = rw (ne-eqb n 0 (λ e. omega (arith
 heard-said (gave (refused (number k))) taken buffer h = rw (h .0, ne-eqb k 0 (λ e. omega (arith, h .1)))
 heard-said (gave (refused (k carrying value))) taken buffer h =
     let three = placed-from-3 k (h .0) in
-    rw (h .0, ne-eqb k 0 (λ e. omega arith), ne-eqb k 1 (λ e. omega arith))
+    rw (h .0, ne-eqb k 0 (λ e. omega arith), ne-eqb k 1 (λ e. omega arith), ne-eqb k 2 (λ e. omega arith))
 
 heard-all : (rs : List Result) → AllSayable rs → heardIn (map told rs) ≡ reports rs
 unfolding AllSayable heardIn reports
@@ -105,16 +90,38 @@ unfolding AllSayable NoneTold2
 none-told-2 [] h = tt
 none-told-2 (r ∷ rs) h = (not-told-2 (r .said) (r .taken) (h .0), none-told-2 rs (h .1))
 
+-- C is told what is left: the bytes taken, and whether the call was refused
 fed-taken : (s : Said) (taken : ℕ) → fed s taken .taken ≡ taken
 fed-taken nothing taken = refl
 fed-taken (gave (served n)) taken = refl
 fed-taken (gave (refused n)) taken = refl
+
+told-refused : (s : Said) (taken : ℕ) → Sayable s → refusedTold (fed s taken) ≡ turnedAway s
+told-refused nothing taken h = refl
+told-refused (gave (served n)) taken h = refl
+told-refused (gave (refused (number k))) taken h = refl
+told-refused (gave (refused (k carrying value))) taken h =
+    let three = placed-from-3 k (h .0) in
+    rw (ne-eqb k 1 (λ e. omega arith), ne-eqb k 2 (λ e. omega arith))
+
+told-left : (call : Call) (result : Result) → Sayable (result .said) → leftTold call (fed (result .said) (result .taken)) ≡ leftBy call result
+told-left call result h =
+    ap (λ (t : Bool). marks (call .silence && t) ++ map byte (drop (fed (result .said) (result .taken) .taken) (call .piece)))
+    (told-refused (result .said) (result .taken) h)
+    ∙ ap (λ (n : ℕ). marks (call .silence && turnedAway (result .said)) ++ map byte (drop n (call .piece))) (fed-taken (result .said) (result .taken))
 
 -- a series after another
 after-append : (done calls : List Call) (r : Record) → recordAfter r (done ++ calls) ≡ recordAfter (recordAfter r done) calls
 unfolding recordAfter
 after-append [] calls r = refl
 after-append (call ∷ done) calls r = after-append done calls (outcome r call .leaves)
+
+-- what the last call of a series says
+last-sayable : (done : List Call) (call : Call) (from r : Record) → r ≡ recordAfter from done → AllSayable (results from (done ++ (call ∷ [])))
+    → Sayable (outcome r call .result .said)
+unfolding recordAfter results AllSayable
+last-sayable [] call from r e h = subst (λ (x : Record). Sayable (outcome x call .result .said)) (sym e) (h .0)
+last-sayable (c ∷ done) call from r e h = last-sayable done call (outcome from c .leaves) r e (h .1)
 
 module _ (kind : Kind) (lent : List ℕ) (long : recordSize ≤ length lent) where
   in-ranges : (done : List Call) → inRange (recordAfter (fresh kind) done) ≡ true
@@ -143,9 +150,46 @@ module _ (kind : Kind) (lent : List ℕ) (long : recordSize ≤ length lent) whe
       let g : inRange r ≡ true = ap inRange e ∙ in-ranges done in
       goes-call r call calls (on-call lent long r g call h) (goes calls (done ++ (call ∷ [])) (outcome r call .leaves) n)
 
+  -- a call after a series: what it gives, and what C has left by it
+  module _ (done : List Call) (r : Record) (e : r ≡ recordAfter (fresh kind) done) (call : Call) where
+    this-call : called (overlay lent 0 (bytesOf r)) call ≡ onRecord lent (outcome r call)
+    this-call =
+        on-call lent long r (ap inRange e ∙ in-ranges done) call (ap inRange (one-more done r call e) ∙ in-ranges (done ++ (call ∷ [])))
+
+    sayable : Sayable (outcome r call .result .said)
+    sayable = last-sayable done call (fresh kind) r e (all-sayable kind (done ++ (call ∷ [])))
+
+    this-left : leftTold call (called (overlay lent 0 (bytesOf r)) call .0) ≡ leftBy call (outcome r call .result)
+    this-left = ap (λ (x : MfcFed × List ℕ × List ℕ). leftTold call (x .0)) this-call ∙ told-left call (outcome r call .result) sayable
+
+  hands : (calls done : List Call) (r : Record) (stream : List Event) → r ≡ recordAfter (fresh kind) done
+      → HandsOver (overlay lent 0 (bytesOf r)) stream calls → HandsIn r stream calls
+  unfolding HandsOver HandsIn
+  hands [] done r stream e h = h
+  hands (call ∷ calls) done r stream e h =
+      let rest = h .0 in
+      let same : called (overlay lent 0 (bytesOf r)) call .1 ≡ overlay lent 0 (bytesOf (outcome r call .leaves)) =
+      ap (λ (x : MfcFed × List ℕ × List ℕ). x .1) (this-call done r e call) in
+      let left = this-left done r e call in
+      let on : HandsOver (overlay lent 0 (bytesOf (outcome r call .leaves))) (leftBy call (outcome r call .result) ++ rest) calls =
+      rw (← same, ← left) (h .2) in
+      (rest, h .1, hands calls (done ++ (call ∷ [])) (outcome r call .leaves) (leftBy call (outcome r call .result) ++ rest) (one-more done r call e) on)
+
+  hands-over : (calls done : List Call) (r : Record) (stream : List Event) → r ≡ recordAfter (fresh kind) done
+      → HandsIn r stream calls → HandsOver (overlay lent 0 (bytesOf r)) stream calls
+  unfolding HandsOver HandsIn
+  hands-over [] done r stream e h = h
+  hands-over (call ∷ calls) done r stream e h =
+      let rest = h .0 in
+      let same : called (overlay lent 0 (bytesOf r)) call .1 ≡ overlay lent 0 (bytesOf (outcome r call .leaves)) =
+      ap (λ (x : MfcFed × List ℕ × List ℕ). x .1) (this-call done r e call) in
+      let left = this-left done r e call in
+      let on = hands-over calls (done ++ (call ∷ [])) (outcome r call .leaves) (leftBy call (outcome r call .result) ++ rest) (one-more done r call e) (h .2) in
+      (rest, h .1, rw (same, left) on)
+
   -- the record's bytes are the first
-  abbrev leftBy : List Call → Record
-  leftBy calls = recordOf kind (streamOf kind calls)
+  abbrev endOf : List Call → Record
+  endOf calls = recordOf kind (streamOf kind calls)
 
   laid-in : (r : Record) → inRange r ≡ true → overlay lent 0 (bytesOf r) ≡ laidIn lent r
   unfolding overlay
@@ -179,39 +223,45 @@ module _ (kind : Kind) (lent : List ℕ) (long : recordSize ≤ length lent) whe
   all-heard calls =
       ap heardIn (given calls) ∙ heard-all (results (fresh kind) calls) (all-sayable kind calls) ∙ demand3 kind .all-items calls
 
-  end : (calls : List Call) → bytesAfter (begun kind lent) calls ≡ laidIn lent (leftBy calls)
+  end : (calls : List Call) → bytesAfter (begun kind lent) calls ≡ laidIn lent (endOf calls)
   end calls =
       ap (λ (l : List ℕ). bytesAfter l calls) fresh-bytes ∙ from-fresh calls .leaves
       ∙ ap (λ (r : Record). overlay lent 0 (bytesOf r)) (demand3 kind .end-record calls)
-      ∙ laid-in (leftBy calls) (demand3 kind .in-ranges (streamOf kind calls))
+      ∙ laid-in (endOf calls) (demand3 kind .in-ranges (streamOf kind calls))
 
-  first : (calls : List Call) → take recordSize (bytesAfter (begun kind lent) calls) ≡ bytesOf (leftBy calls)
+  first : (calls : List Call) → take recordSize (bytesAfter (begun kind lent) calls) ≡ bytesOf (endOf calls)
   first calls =
       let good = demand3 kind .in-ranges (streamOf kind calls) in
-      let n : length (bytesOf (leftBy calls)) ≡ recordSize = omega (arith, in-range (leftBy calls) good .0) in
-      ap (take recordSize) (end calls) ∙ take-at (bytesOf (leftBy calls)) (drop recordSize lent) recordSize n
+      let n : length (bytesOf (endOf calls)) ≡ recordSize = omega (arith, in-range (endOf calls) good .0) in
+      ap (take recordSize) (end calls) ∙ take-at (bytesOf (endOf calls)) (drop recordSize lent) recordSize n
+
+  bytes-after : (calls : List Call) → bytesAfter (begun kind lent) calls ≡ overlay lent 0 (bytesOf (recordAfter (fresh kind) calls))
+  bytes-after calls = ap (λ (l : List ℕ). bytesAfter l calls) fresh-bytes ∙ from-fresh calls .leaves
 
   noise-told : (calls : List Call)
       → noiseRecord (bytesAfter (begun kind lent) calls) ≡ record { refusal = 0; count = limited (noise (streamOf kind calls)) }
   noise-told calls =
-      ap (λ (l : List ℕ). noiseRecord (bytesAfter l calls)) fresh-bytes ∙ ap noiseRecord (from-fresh calls .leaves)
+      ap noiseRecord (bytes-after calls)
       ∙ noise-again lent (recordAfter (fresh kind) calls) long (in-ranges calls)
       ∙ ap (λ (n : ℕ). noiseTold (served n)) (demand3 kind .noise-count calls)
 
-  some-taken : (calls : List Call) (piece frame : List ℕ) → 1 ≤ length piece → 260 ≤ length frame
-      → 1 ≤ feedRecord (bytesAfter (begun kind lent) calls) piece frame .0 .taken
-  some-taken calls piece frame some room =
-      let r = recordAfter (fresh kind) calls in
-      let call = feeding piece frame in
-      let n = one-more calls r call refl in
-      let h : inRange (outcome r call .leaves) ≡ true = ap inRange n ∙ in-ranges (calls ++ (call ∷ [])) in
-      let bytes : bytesAfter (begun kind lent) calls ≡ overlay lent 0 (bytesOf r) =
-      ap (λ (l : List ℕ). bytesAfter l calls) fresh-bytes ∙ from-fresh calls .leaves in
-      let same : feedRecord (bytesAfter (begun kind lent) calls) piece frame .0 .taken ≡ feedOf r piece frame .result .taken =
-      ap (λ (l : List ℕ). feedRecord l piece frame .0 .taken) bytes
-      ∙ ap (λ (x : MfcFed × List ℕ × List ℕ). x .0 .taken) (on-call lent long r (in-ranges calls) call h)
-      ∙ fed-taken (feedOf r piece frame .result .said) (feedOf r piece frame .result .taken) in
-      omega (arith, same, demand3 kind .progress calls piece frame some room)
+  cut : (calls : List Call) (left : List Event) (more : List Call) → HandsOver (bytesAfter (begun kind lent) calls) left more
+      → streamOf kind (calls ++ more) ≡ streamOf kind calls ++ left
+  cut calls left more h =
+      demand3 kind .every-cut calls left more
+      (hands more calls (recordAfter (fresh kind) calls) left refl (subst (λ (l : List ℕ). HandsOver l left more) (bytes-after calls) h))
+
+  handed-so : (calls : List Call) (left : List Event) → (more : List Call) × HandsOver (bytesAfter (begun kind lent) calls) left more
+  handed-so calls left =
+      let t = demand3 kind .handed-in calls left in
+      (t .0, subst (λ (l : List ℕ). HandsOver l left (t .0)) (sym (bytes-after calls)) (hands-over (t .0) calls (recordAfter (fresh kind) calls) left refl (t .1)))
+
+  leaves-less : (calls : List Call) (call : Call) → 1 ≤ length (handed call) → 260 ≤ length (call .buffer)
+      → length (leftTold call (called (bytesAfter (begun kind lent) calls) call .0)) < length (handed call)
+  leaves-less calls call some room =
+      let left : leftTold call (called (bytesAfter (begun kind lent) calls) call .0) ≡ leftBy call (outcome (recordAfter (fresh kind) calls) call .result) =
+      ap (λ (l : List ℕ). leftTold call (called l call .0)) (bytes-after calls) ∙ this-left calls (recordAfter (fresh kind) calls) refl call in
+      rw left (demand3 kind .progress calls call some room)
 
 pub series-over-bytes : (kind : Kind) → SeriesOverBytes kind
 series-over-bytes kind =
@@ -227,5 +277,7 @@ series-over-bytes kind =
           first kind lent long calls
           ∙ ap (λ (stream : List Event). bytesOf (recordOf kind stream)) same
           ∙ sym (first kind other big others);
-      progress = some-taken kind;
+      every-cut = cut kind;
+      handed-in = handed-so kind;
+      progress = leaves-less kind;
     }

@@ -143,9 +143,16 @@ three (x ∷ y ∷ z ∷ w ∷ l) b c d h = refl
 abbrev pub placeOf : Mode → ℕ → List ℕ
 placeOf mode len = numberOfMode mode ∷ len / 256 % 256 ∷ len % 256 ∷ []
 
-pub place-put : (l : List ℕ) (r : Receiver) {b c d : ℕ} → 4 ≤ length l → b ≡ numberOfMode (r .mode) → c ≡ r .len / 256 % 256 → d ≡ r .len % 256
-    → set (set (set l 1 b) 2 c) 3 d ≡ overlay l 1 (placeOf (r .mode) (r .len))
-place-put l r h e f g = rw (e, f, g) (three l (numberOfMode (r .mode)) (r .len / 256 % 256) (r .len % 256) h)
+pub place-put : (l : List ℕ) (r : Receiver) {b c d : ℕ} {mid : List ℕ} → 4 ≤ length l → b ≡ numberOfMode (r .mode) → mid ≡ set l 1 b
+    → c ≡ r .len / 256 % 256 → d ≡ r .len % 256
+    → set (set mid 2 c) 3 d ≡ overlay l 1 (placeOf (r .mode) (r .len))
+place-put l r h e m f g = rw (m, e, f, g) (three l (numberOfMode (r .mode)) (r .len / 256 % 256) (r .len % 256) h)
+
+-- a mode that stands already
+pub mode-same : (l : List ℕ) (n : ℕ) → 2 ≤ length l → getD l 1 0 ≡ n → l ≡ set l 1 n
+mode-same [] n h e = absurd (omega arith)
+mode-same (x ∷ []) n h e = absurd (omega arith)
+mode-same (x ∷ y ∷ l) n h e = ap (λ (v : ℕ). x ∷ v ∷ l) e
 
 -- a count of noise bytes is put by four stores
 pub noise-put : (l : List ℕ) (n : ℕ) {a b c d : ℕ} → 8 ≤ length l

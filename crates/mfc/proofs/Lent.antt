@@ -18,20 +18,19 @@ use Rattle.refusal.proofs.Room.{overlay-all}
 use Rattle.shdlc.specs.declared.Kind.{Kind}
 use Rattle.receiver.specs.declared.Receiver.{Receiver}
 use Rattle.receiver.specs.declared.Fed.{Fed}
-use Rattle.receiver.specs.declared.Quiet.{Quiet}
 use Rattle.receiver.specs.declared.NoiseCount.{NoiseCount}
 use Rattle.receiver.specs.declared.Made.{Made}
 use Rattle.receiver.specs.declared.Made.the-variants as made
 use Rattle.receiver.specs.Record.{Record, held, numberOfMode, inRange, fresh}
-use Rattle.receiver.specs.Calls.{gave, Outcome, paperAnswer, paperFed, paperQuiet, paperMade, paperNoise, freshOf, refusedCall, feedOf, silenceOf, noiseOf}
-use Rattle.receiver.proofs.Cases.{feed-range, feed-room, silence-range, kind-fed, kind-quiet}
+use Rattle.receiver.specs.Calls.{gave, Outcome, paperAnswer, paperFed, paperMade, paperNoise, freshOf, refusedCall, feedOf, noiseOf}
+use Rattle.receiver.proofs.Cases.{feed-range, feed-room, kind-fed}
 use Rattle.mfc.specs.declared.answers.MfcFed.{MfcFed}
 use Rattle.mfc.specs.declared.answers.MfcNoise.{MfcNoise}
 use Rattle.mfc.specs.declared.receivers.KindAt.{KindAt}
 use Rattle.mfc.specs.declared.receivers.KindAt.the-variants as kinds
 use Rattle.mfc.specs.declared.receivers.Loaded.{Loaded}
 use Rattle.mfc.specs.declared.receivers.Loaded.the-variants as loaded
-use Rattle.mfc.specs.Receivers.{numberOfKind, kindAt, recordSize, countBytes, headOf, bytesOf, countIn, storeIn, fieldsIn, ranged, recordIn, paperKind, paperLoaded, fed, refusalIn, freshAs, freshRecord, fedBytes, untouched, feedAs, feedRecord, silenceAs, silenceRecord, noiseTold, noiseAs, noiseRecord}
+use Rattle.mfc.specs.Receivers.{numberOfKind, kindAt, recordSize, countBytes, headOf, bytesOf, countIn, storeIn, fieldsIn, ranged, recordIn, paperKind, paperLoaded, fed, freshAs, freshRecord, fedBytes, untouched, feedAs, feedRecord, noiseTold, noiseAs, noiseRecord}
 use Rattle.mfc.proofs.Heads.{placeOf, by-eight, high-back, low-back, noise-back, Spells, spells, holds}
 
 -- the lent bytes with another store
@@ -60,17 +59,12 @@ store-same lent = rw (take-append-drop 260 (drop 8 lent), take-append-drop 8 len
 abbrev tailOf : Receiver → List ℕ
 tailOf r = placeOf (r .mode) (r .len) ++ countBytes (r .noise)
 
--- all but the kind, where the kind stands already: with another store, and with the store as it was
+-- all but the kind, where the kind stands already, with another store
 pub placed : (lent store : List ℕ) {a : ℕ} (r : Receiver) → a ≡ getD lent 0 0 → recordSize ≤ length lent → length store ≡ 260
     → overlay (stored lent store) 1 (tailOf r) ≡ overlay lent 0 ((a ∷ tailOf r) ++ store)
 unfolding overlay
 placed [] store r k h e = absurd (omega arith)
 placed (x ∷ lent) store r k h e = rw k (laid (x ∷ lent) store (x ∷ tailOf r) refl h e)
-
-pub placed-alone : (lent : List ℕ) {a : ℕ} (r : Receiver) → a ≡ getD lent 0 0 → recordSize ≤ length lent
-    → overlay lent 1 (tailOf r) ≡ overlay lent 0 ((a ∷ tailOf r) ++ storeIn lent)
-placed-alone lent r k h =
-    ap (λ (l : List ℕ). overlay l 1 (tailOf r)) (sym (store-same lent)) ∙ placed lent (storeIn lent) r k h (store-size lent h)
 
 pub stored-long : (lent store : List ℕ) → recordSize ≤ length lent → 8 ≤ length (stored lent store)
 stored-long lent store h = omega (arith, length-append (take 8 lent) (store ++ drop 260 (drop 8 lent)), length-take 8 lent)
@@ -103,80 +97,54 @@ module _ (lent : List ℕ) (byte : (i : ℕ) → getD lent i 0 < 256) (r : Recor
   abbrev back : overlay lent 0 (bytesOf r) ≡ lent
   back = put-back lent r byte (spells lent r e)
 
-  module _ (piece frame : List ℕ) where
-    feed-back : (n : ℕ) → feedOf r piece frame ≡ refusedCall n r frame → fedBytes (feedOf r piece frame) lent ≡ untouched n lent frame
+  module _ (silence : Bool) (piece frame : List ℕ) where
+    feed-back : (n : ℕ) → feedOf r silence piece frame ≡ refusedCall n r frame → fedBytes (feedOf r silence piece frame) lent ≡ untouched n lent frame
     feed-back n h = ap (λ (o : Outcome). fedBytes o lent) h ∙ ap (λ (l : List ℕ). untouched n l frame) back
 
     feed-tests : (t u : Bool) → inRange r ≡ t → ltb (length frame) 260 ≡ u
-        → fedBytes (feedOf r piece frame) lent
-        ≡ cond t (cond u (untouched 1 lent frame) (fedBytes (feedOf r piece frame) lent)) (untouched 2 lent frame)
-    feed-tests true true h g = feed-back 1 (feed-room r piece frame h (ltb-true _ _ g))
+        → fedBytes (feedOf r silence piece frame) lent
+        ≡ cond t (cond u (untouched 1 lent frame) (fedBytes (feedOf r silence piece frame) lent)) (untouched 2 lent frame)
+    feed-tests true true h g = feed-back 1 (feed-room r silence piece frame h (ltb-true _ _ g))
     feed-tests true false h g = refl
-    feed-tests false u h g = feed-back 2 (feed-range r piece frame h)
+    feed-tests false u h g = feed-back 2 (feed-range r silence piece frame h)
 
     feed-cases : (t : Bool)
-        → cond t (cond (ltb (length frame) 260) (untouched 1 lent frame) (fedBytes (feedOf r piece frame) lent)) (untouched 2 lent frame)
-        ≡ feedAs (cond t (some r) none) lent piece frame
+        → cond t (cond (ltb (length frame) 260) (untouched 1 lent frame) (fedBytes (feedOf r silence piece frame) lent)) (untouched 2 lent frame)
+        ≡ feedAs (cond t (some r) none) lent silence piece frame
     feed-cases true = refl
     feed-cases false = refl
 
-    feed-fields : fedBytes (feedOf r piece frame) lent ≡ feedRecord lent piece frame
+    feed-fields : fedBytes (feedOf r silence piece frame) lent ≡ feedRecord lent silence piece frame
     unfolding feedRecord recordIn
     feed-fields =
         feed-tests (inRange r) (ltb (length frame) 260) refl refl
         ∙ feed-cases (inRange r)
-        ∙ ap (λ (o : Option Record). feedAs (ranged o) lent piece frame) e
+        ∙ ap (λ (o : Option Record). feedAs (ranged o) lent silence piece frame) e
 
-  silence-fields : silenceAs (some r) lent ≡ silenceRecord lent
-  unfolding silenceRecord recordIn
-  silence-fields = go (inRange r) refl ∙ ap (λ (o : Option Record). silenceAs (ranged o) lent) e
-    where
-      go : (t : Bool) → inRange r ≡ t → silenceAs (some r) lent ≡ silenceAs (cond t (some r) none) lent
-      go true h = refl
-      go false h =
-          ap (λ (o : Outcome). (refusalIn (o .result .said), overlay lent 0 (bytesOf (o .leaves)))) (silence-range r h)
-          ∙ ap (λ (l : List ℕ). (2, l)) back
-
--- the returns of the three calls on a record
+-- the returns of the two calls on a record
 module _ (lent : List ℕ) {l : Loaded} (e : paperLoaded l (storeIn lent) ≡ fieldsIn lent) where
   -- a call that leaves the kind leaves the first byte
   kind-stays : {r : Receiver} {kind : Kind} → l ≡ loaded.Held r → kind ≡ r .kind → numberOfKind kind ≡ getD lent 0 0
   kind-stays {r} is f = ap numberOfKind f ∙ spells lent (held r (storeIn lent)) (holds lent e is) .kind
 
-  module _ (piece frame : List ℕ) where
+  module _ (silence : Bool) (piece frame : List ℕ) where
     pub feed-bad : {result : MfcFed} → l ≡ loaded.BadRecord → result ≡ fed (gave (refused (paper BadRecord))) 0
-        → (result, lent, frame) ≡ feedRecord lent piece frame
+        → (result, lent, frame) ≡ feedRecord lent silence piece frame
     unfolding feedRecord recordIn
     feed-bad is r =
-        ap (λ (x : MfcFed). (x, lent, frame)) r ∙ ap (λ (o : Option Record). feedAs (ranged o) lent piece frame) (holds lent e is)
+        ap (λ (x : MfcFed). (x, lent, frame)) r ∙ ap (λ (o : Option Record). feedAs (ranged o) lent silence piece frame) (holds lent e is)
 
     pub feed-held : (f : Fed) {r : Receiver} {store after bytes : List ℕ} {result : MfcFed} → ((i : ℕ) → getD lent i 0 < 256)
         → recordSize ≤ length lent → l ≡ loaded.Held r
         → length store ≡ length (storeIn lent)
-        → paperFed f store after ≡ feedOf (held r (storeIn lent)) piece frame
+        → paperFed f store after ≡ feedOf (held r (storeIn lent)) silence piece frame
         → bytes ≡ overlay (stored lent store) 1 (tailOf (f .receiver))
         → result ≡ fed (paperAnswer (f .answer)) (f .taken)
-        → (result, bytes, after) ≡ feedRecord lent piece frame
+        → (result, bytes, after) ≡ feedRecord lent silence piece frame
     feed-held f {r} {store} {after} byte long is size g b w =
-        let k = kind-stays is (kind-fed f store after (held r (storeIn lent)) piece frame g) in
+        let k = kind-stays is (kind-fed f store after (held r (storeIn lent)) silence piece frame g) in
         rw (w, b, placed lent store (f .receiver) k long (size ∙ store-size lent long))
-        (ap (λ (o : Outcome). fedBytes o lent) g ∙ feed-fields lent byte (held r (storeIn lent)) (holds lent e is) piece frame)
-
-  pub silence-bad : {result : ℕ} → l ≡ loaded.BadRecord → result ≡ numberOf BadRecord → (result, lent) ≡ silenceRecord lent
-  unfolding silenceRecord recordIn
-  silence-bad is r = ap (λ (x : ℕ). (x, lent)) r ∙ ap (λ (o : Option Record). silenceAs (ranged o) lent) (holds lent e is)
-
-  pub silence-held : (q : Quiet) {r : Receiver} {bytes : List ℕ} {result : ℕ} → ((i : ℕ) → getD lent i 0 < 256)
-      → recordSize ≤ length lent → l ≡ loaded.Held r
-      → paperQuiet q (storeIn lent) ≡ silenceOf (held r (storeIn lent))
-      → bytes ≡ overlay lent 1 (tailOf (q .receiver))
-      → result ≡ refusalIn (paperAnswer (q .answer))
-      → (result, bytes) ≡ silenceRecord lent
-  silence-held q {r} byte long is g b w =
-      let k = kind-stays is (kind-quiet q (storeIn lent) (held r (storeIn lent)) g) in
-      rw (w, b, placed-alone lent (q .receiver) k long)
-      (ap (λ (o : Outcome). (refusalIn (o .result .said), overlay lent 0 (bytesOf (o .leaves)))) g
-      ∙ silence-fields lent byte (held r (storeIn lent)) (holds lent e is))
+        (ap (λ (o : Outcome). fedBytes o lent) g ∙ feed-fields lent byte (held r (storeIn lent)) (holds lent e is) silence piece frame)
 
   pub noise-bad : {result : MfcNoise} → l ≡ loaded.BadRecord → result ≡ noiseTold (refused (paper BadRecord)) → result ≡ noiseRecord lent
   unfolding noiseRecord recordIn

@@ -1,11 +1,11 @@
 -- The C interface, a receiver. Its record is the first 268 bytes of a lent slice: the kind (0 request, 1 reply), the mode (0 outside, 1
 -- plain, 2 escaped, 3 and 4 the refusal found), the length (high byte, low byte), the count of noise bytes (four bytes, the highest
--- first), the store. What each of the four calls gives.
+-- first), the store. What each of the three calls gives.
 use Prim.Native.Nat.{ℕ, zero, suc, _+_, _*_, _/_, _%_}
-use mathlib.Core.Bool.{cond}
+use mathlib.Core.Bool.{Bool, cond, not}
 use mathlib.Core.List.{List, [], _∷_, _++_}
 use mathlib.Core.Option.{Option, none, some}
-use lib.Dec.{ltb}
+use lib.Dec.{ltb, eqb}
 use lib.ListN.{length, getD, take, drop}
 use Rattle.refusal.specs.Refusals.{number, numberIn, placeBy, Answered, served, refused}
 use Rattle.refusal.specs.Room.{overlay}
@@ -14,7 +14,7 @@ use Rattle.shdlc.specs.declared.Kind.the-variants.{Request, Reply}
 use Rattle.receiver.specs.declared.Mode.{Mode}
 use Rattle.receiver.specs.declared.Mode.the-variants.{Outside, Plain, Escaped, BadEscape, BareControl}
 use Rattle.receiver.specs.Record.{Record, held, numberOfMode, inRange, fresh}
-use Rattle.receiver.specs.Calls.{Said, nothing, gave, Outcome, feedOf, silenceOf}
+use Rattle.receiver.specs.Calls.{Said, nothing, gave, Outcome, feedOf}
 use Rattle.mfc.specs.declared.answers.MfcFed.{MfcFed}
 use Rattle.mfc.specs.declared.answers.MfcNoise.{MfcNoise}
 use Rattle.mfc.specs.declared.receivers.KindAt.{KindAt}
@@ -103,11 +103,6 @@ fed nothing taken = record { refusal = 0; place = 0; «frame_length» = 0; taken
 fed (gave (served n)) taken = record { refusal = 0; place = 0; «frame_length» = n; taken = taken }
 fed (gave (refused n)) taken = record { refusal = numberIn n; place = placeBy n; «frame_length» = 0; taken = taken }
 
-abbrev pub refusalIn : Said → ℕ
-refusalIn nothing = 0
-refusalIn (gave (served n)) = 0
-refusalIn (gave (refused n)) = numberIn n
-
 -- a fresh record: 1 under 268 bytes, then 12 for a number of no kind; else the record's bytes at the start, and all else as it was
 abbrev pub freshAs : Option Kind → List ℕ → ℕ × List ℕ
 freshAs none lent = (12, lent)
@@ -120,25 +115,22 @@ freshRecord kind lent = cond (ltb (length lent) recordSize) (1, lent) (freshAs (
 abbrev pub fedBytes : Outcome → List ℕ → MfcFed × List ℕ × List ℕ
 fedBytes o lent = (fed (o .result .said) (o .result .taken), overlay lent 0 (bytesOf (o .leaves)), o .result .buffer)
 
--- a feeding call. "A record outside its stated ranges is refusal 2, checked first, and comes back as it was." "A feeding call lent under
--- 260 bytes is refused with 1 and adds nothing; the record comes back as it was."
+-- a call, with silence before the piece or none. "A record outside its stated ranges is refusal 2, checked first, and comes back as it
+-- was." A call lent under 260 bytes is "refused with 1 and adds nothing; the record comes back as it was."
 abbrev pub untouched : ℕ → List ℕ → List ℕ → MfcFed × List ℕ × List ℕ
 untouched n lent frame = (fed (gave (refused (number n))) 0, lent, frame)
 
-abbrev pub feedAs : Option Record → List ℕ → List ℕ → List ℕ → MfcFed × List ℕ × List ℕ
-feedAs none lent piece frame = untouched 2 lent frame
-feedAs (some r) lent piece frame = cond (ltb (length frame) 260) (untouched 1 lent frame) (fedBytes (feedOf r piece frame) lent)
+abbrev pub feedAs : Option Record → List ℕ → Bool → List ℕ → List ℕ → MfcFed × List ℕ × List ℕ
+feedAs none lent silence piece frame = untouched 2 lent frame
+feedAs (some r) lent silence piece frame =
+    cond (ltb (length frame) 260) (untouched 1 lent frame) (fedBytes (feedOf r silence piece frame) lent)
 
-unfoldable pub feedRecord : List ℕ → List ℕ → List ℕ → MfcFed × List ℕ × List ℕ
-feedRecord lent piece frame = feedAs (recordIn lent) lent piece frame
+unfoldable pub feedRecord : List ℕ → Bool → List ℕ → List ℕ → MfcFed × List ℕ × List ℕ
+feedRecord lent silence piece frame = feedAs (recordIn lent) lent silence piece frame
 
--- a silence mark: the answer, and the lent record afterwards; 2 as above
-abbrev pub silenceAs : Option Record → List ℕ → ℕ × List ℕ
-silenceAs none lent = (2, lent)
-silenceAs (some r) lent = (refusalIn (silenceOf r .result .said), overlay lent 0 (bytesOf (silenceOf r .leaves)))
-
-unfoldable pub silenceRecord : List ℕ → ℕ × List ℕ
-silenceRecord lent = silenceAs (recordIn lent) lent
+-- the flag by number: any but 0 says that silence came before the piece
+abbrev pub isSilence : ℕ → Bool
+isSilence n = not (eqb n 0)
 
 -- the count of noise bytes: the refusal's number, 0 for none, and the count; 2 as above
 abbrev pub noiseTold : Answered ℕ → MfcNoise

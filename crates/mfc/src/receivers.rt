@@ -12,11 +12,11 @@ use shdlc::Kind;
 ghost use mathlib.Core.Path.{_≡_};
 ghost use mathlib.Core.List.{[], _∷_};
 ghost use Prim.Native.Nat.{_+_, _*_, _/_, _%_, _≤_};
-ghost use lib.ListN.{length};
+ghost use lib.ListN.{length, set};
 ghost use Rattle.refusal.specs.Room.{overlay};
 ghost use Rattle.receiver.specs.Record.{numberOfMode};
 ghost use Rattle.receiver.specs.Calls.{paperAnswer, paperNoise};
-ghost use Rattle.mfc.specs.Receivers.{numberOfKind, kindAt, modeAt, paperKind, paperMode, paperLoaded, countBytes, headOf, countIn, storeIn, fieldsIn, fed, refusalIn, noiseTold, freshRecord, feedRecord, silenceRecord, noiseRecord};
+ghost use Rattle.mfc.specs.Receivers.{numberOfKind, kindAt, modeAt, paperKind, paperMode, paperLoaded, countBytes, headOf, countIn, storeIn, fieldsIn, fed, noiseTold, freshRecord, feedRecord, isSilence, noiseRecord};
 
 // A kind of frame, a mode and a record by their numbers.
 enum KindAt {
@@ -114,6 +114,17 @@ fn load(lent: &[u8]) -> Loaded
     })
 }
 
+// Puts a mode into the lent bytes, where another stands there. The test parts the stores of `put_place`: only so the two bytes of the length
+// become one store, and the next call, which loads them as one number, need not wait for two.
+fn put_mode(lent: &mut [u8], n: u8)
+    requires { ⌜ 2 ≤ length (now lent) ⌝ }
+    ensures { λ _. ⌜ now (lent .exit) ≡ set (now (lent .entry)) 1 n ⌝ }
+{
+    if lent[1] != n {
+        lent[1] = n;
+    }
+}
+
 // Puts a record's mode and length into the lent bytes.
 fn put_place(lent: &mut [u8], r: Receiver)
     requires { ⌜ 4 ≤ length (now lent) ⌝ }
@@ -121,7 +132,7 @@ fn put_place(lent: &mut [u8], r: Receiver)
 {
     let mode = r.mode;
     let len = r.len;
-    lent[1] = receiver::mode_number(mode);
+    put_mode(lent, receiver::mode_number(mode));
     lent[2] = high(len);
     lent[3] = low(len);
 }
@@ -209,16 +220,6 @@ fn of_noise(noise: NoiseCount) -> MfcNoise
     }
 }
 
-fn refusal_in(answer: Answer) -> u8
-    ensures { λ n. ⌜ n ≡ refusalIn (paperAnswer answer) ⌝ }
-{
-    match answer {
-        Answer::Nothing => 0,
-        Answer::Frame(_) => 0,
-        Answer::Refused(why) => refusal::number(why),
-    }
-}
-
 // Makes a fresh receiver of a kind, MFC_KIND_REQUEST or MFC_KIND_REPLY, in the first MFC_RECORD_SIZE bytes of record. Answers the refusal's
 // number, 0 for none. Refusals, in their order: 1 where size is under MFC_RECORD_SIZE; 12 for another kind.
 #[no_mangle]
@@ -240,21 +241,24 @@ pub extern "C" fn mfc_receiver_fresh(kind: u8, record: &mut [u8]) -> u8
     }
 }
 
-// Hands the n bytes of a piece to the receiver whose record is lent. It takes bytes up to and including the one that completes an item,
-// a frame or a refusal, or all of them: hand in the rest again. A frame's unstuffed body stands at the start of frame; else frame is
-// untouched. Refusals, in their order: 2 where size is under MFC_RECORD_SIZE or a field of the record is out of its range; 1 where room is
-// under MFC_FRAME_ROOM; else those of the bytes up to a 7E that are no frame: 3 for a wrong escape or 4 for a bare 11 or 13 hex, whichever
-// comes first, with its place; then 5 to 8 of the body (too long, too short, L wrong, checksum wrong). With 2 and 1 nothing is taken: the
-// same call again is refused again.
+// Hands the n bytes of a piece to the receiver whose record is lent. silence says whether over 200 ms without a byte came before them: 0
+// for no, any other number for yes; an empty piece may carry it. It is dealt with first: a frame that was begun is cut off, refusal 9, and
+// bytes are noise until the next 7E. The call takes bytes up to and including the one that completes an item, a frame or a refusal, or all
+// of them, and none with 9. A frame's unstuffed body stands at the start of frame; else frame is untouched. Refusals, in their order: 2
+// where size is under MFC_RECORD_SIZE or a field of the record is out of its range; 1 where room is under MFC_FRAME_ROOM; 9 where silence
+// cut off bytes of a frame; else those of the bytes up to a 7E that are no frame: 3 for a wrong escape or 4 for a bare 11 or 13 hex,
+// whichever comes first, with its place; then 5 to 8 of the body (too long, too short, L wrong, checksum wrong). Hand in the rest
+// again, with silence 0. Not so with 2 and 1: nothing is taken and silence is not dealt with; the same call again is refused again, and the
+// rest, an empty one too, still carries the silence.
 #[no_mangle]
-pub extern "C" fn mfc_feed(record: &mut [u8], piece: &[u8], frame: &mut [u8]) -> MfcFed
-    ensures { λ r. ⌜ (r, now («record» .exit), now (frame .exit)) ≡ feedRecord (now («record» .entry)) (now (piece .entry)) (now (frame .entry)) ⌝ }
+pub extern "C" fn mfc_feed(record: &mut [u8], silence: u8, piece: &[u8], frame: &mut [u8]) -> MfcFed
+    ensures { λ r. ⌜ (r, now («record» .exit), now (frame .exit)) ≡ feedRecord (now («record» .entry)) (isSilence silence) (now (piece .entry)) (now (frame .entry)) ⌝ }
 {
     let Loaded::Held(r) = load(record) else {
         return of_answer(Answer::Refused(Refusal::BadRecord), 0);
     };
     let before = r.noise;
-    let f = receiver::feed(r, &mut record[8..RECORD_SIZE], piece, frame);
+    let f = receiver::feed(r, &mut record[8..RECORD_SIZE], silence != 0, piece, frame);
     let next = f.receiver;
     let taken = f.taken;
     let answer = f.answer;
@@ -262,24 +266,6 @@ pub extern "C" fn mfc_feed(record: &mut [u8], piece: &[u8], frame: &mut [u8]) ->
     let told = of_answer(answer, taken);
     put_after(record, before, next);
     told
-}
-
-// Tells the receiver whose record is lent of silence over 200 ms: what was begun is cut off, and bytes are noise until the next 7E.
-// Answers the refusal's number, 0 for none: 2 where size is under MFC_RECORD_SIZE or a field of the record is out of its range; 9 where
-// bytes of a frame were cut off.
-#[no_mangle]
-pub extern "C" fn mfc_silence(record: &mut [u8]) -> u8
-    ensures { λ r. ⌜ (r, now («record» .exit)) ≡ silenceRecord (now («record» .entry)) ⌝ }
-{
-    let Loaded::Held(r) = load(record) else {
-        return refusal::number(Refusal::BadRecord);
-    };
-    let before = r.noise;
-    let q = receiver::silence(r, &record[8..RECORD_SIZE]);
-    let next = q.receiver;
-    let answer = q.answer;
-    put_after(record, before, next);
-    refusal_in(answer)
 }
 
 // The count of bytes that the receiver whose record is lent has thrown away as noise: those before the first 7E, and those after silence

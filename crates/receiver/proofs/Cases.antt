@@ -13,9 +13,9 @@ use Rattle.shdlc.specs.Stream.{Item}
 use Rattle.receiver.specs.declared.Receiver.{Receiver}
 use Rattle.receiver.specs.declared.Fed.{Fed}
 use Rattle.receiver.specs.declared.Scanned.{Scanned}
-use Rattle.receiver.specs.declared.Quiet.{Quiet}
-use Rattle.receiver.specs.Record.{Record, held, outsideOf, lengthInRange, inRange, Act, Store, Become, Discard, actOf, pushed, acted, opened, silenced, pending, itemOf, nextByte}
-use Rattle.receiver.specs.Calls.{Said, nothing, gave, Outcome, saidOf, bufferOf, Scan, scannedAs, paperFed, paperQuiet, refusedCall, completed, unfinished, closes, scanFrom, fedBy, feedOf, silenceOf, noiseOf}
+use Rattle.receiver.specs.Record.{Record, held, numberOfMode, modeOf, outsideOf, lengthInRange, inRange, Act, Store, Become, Discard, actOf, pushed, acted, opened, silenced, pendingIn, pending, itemOf, nextByte}
+use Rattle.receiver.specs.Calls.{gave, Outcome, saidOf, bufferOf, Scan, scannedAs, paperFed, refusedCall, completed, unfinished, closes, scanFrom, fedBy, cutOff, afterMark, heard, feedOf, noiseOf}
+use Rattle.receiver.proofs.Modes.{pending-by-number}
 
 -- a test of the code that is negated
 pub not-true : (t : Bool) → not t ≡ true → t ≡ false
@@ -44,52 +44,64 @@ range-few r h = go (eqb (length (r .store)) 260) (ltb (r .noise) 4294967296) ref
     go true false f g = absurd (false≢true g)
     go false u f g = absurd (false≢true g)
 
--- a feeding call
-module _ (r : Record) (piece buffer : List ℕ) where
-  pub feed-range : inRange r ≡ false → feedOf r piece buffer ≡ refusedCall 2 r buffer
+-- a call
+module _ (r : Record) (silence : Bool) (piece buffer : List ℕ) where
+  pub feed-range : inRange r ≡ false → feedOf r silence piece buffer ≡ refusedCall 2 r buffer
   unfolding feedOf
   feed-range h = rw h
 
-  pub feed-room : inRange r ≡ true → length buffer < 260 → feedOf r piece buffer ≡ refusedCall 1 r buffer
+  pub feed-room : inRange r ≡ true → length buffer < 260 → feedOf r silence piece buffer ≡ refusedCall 1 r buffer
   unfolding feedOf
   feed-room h g = rw (h, lt-ltb (length buffer) 260 g)
 
-  pub feed-scan : inRange r ≡ true → 260 ≤ length buffer → feedOf r piece buffer ≡ fedBy (scanFrom 0 r piece) buffer
+  pub feed-heard : inRange r ≡ true → 260 ≤ length buffer → feedOf r silence piece buffer ≡ heard r silence piece buffer
   unfolding feedOf
-  feed-scan h g = rw (h, le-ltb (length buffer) 260 g)
+  feed-heard h g = rw (h, le-ltb (length buffer) 260 g)
 
-  pub feed-open : (s : Scan) → inRange r ≡ true → 260 ≤ length buffer → s ≡ scanFrom 0 r piece → s .closed ≡ false
-      → feedOf r piece buffer ≡ unfinished (s .before) (s .taken) buffer
-  feed-open s h g e still = feed-scan h g ∙ ap (λ (x : Scan). fedBy x buffer) (sym e) ∙ rw still
+  -- by whether the mark cuts off a stretch
+  feed-by-cut : (t : Bool) → inRange r ≡ true → 260 ≤ length buffer → (silence && pending r) ≡ t
+      → feedOf r silence piece buffer ≡ cond t (cutOff r buffer) (fedBy (scanFrom 0 (afterMark silence r) piece) buffer)
+  feed-by-cut t h g c =
+      feed-heard h g ∙ ap (λ (u : Bool). cond u (cutOff r buffer) (fedBy (scanFrom 0 (afterMark silence r) piece) buffer)) c
 
-  pub feed-closed : (s : Scan) → inRange r ≡ true → 260 ≤ length buffer → s ≡ scanFrom 0 r piece → s .closed ≡ true
-      → feedOf r piece buffer ≡ completed (s .before) (s .taken) buffer
-  feed-closed s h g e closed = feed-scan h g ∙ ap (λ (x : Scan). fedBy x buffer) (sym e) ∙ rw closed
+  pub feed-cut : inRange r ≡ true → 260 ≤ length buffer → (silence && pending r) ≡ true → feedOf r silence piece buffer ≡ cutOff r buffer
+  feed-cut = feed-by-cut true
 
--- a mark
-abbrev pub quiet : Record → Said → Outcome
-quiet r said = record { leaves = silenced r; result = record { said = said; taken = 0; buffer = [] } }
+  module _ (s : Scan) (range : inRange r ≡ true) (room : 260 ≤ length buffer) (on : (silence && pending r) ≡ false) (found : s ≡ scanFrom 0 (afterMark silence r) piece) where
+    pub feed-open : s .closed ≡ false → feedOf r silence piece buffer ≡ unfinished (s .before) (s .taken) buffer
+    feed-open still = feed-by-cut false range room on ∙ ap (λ (x : Scan). fedBy x buffer) (sym found) ∙ rw still
 
--- the same from the struct that the code makes
-pub quiet-left : (x : Receiver) (r : Record) (said : Said) → x ≡ outsideOf (r .kind) (r .noise)
-    → _≡_ {A = Outcome} (record { leaves = held x (r .store); result = record { said = said; taken = 0; buffer = [] } }) (quiet r said)
-quiet-left x r said e = ap (λ (y : Receiver). record { leaves = held y (r .store); result = record { said = said; taken = 0; buffer = [] } }) e
+    pub feed-closed : s .closed ≡ true → feedOf r silence piece buffer ≡ completed (s .before) (s .taken) buffer
+    feed-closed closed = feed-by-cut false range room on ∙ ap (λ (x : Scan). fedBy x buffer) (sym found) ∙ rw closed
 
+-- the record that the code makes of a mark, and what it tests
+module _ (silence : Bool) (r : Receiver) (store : List ℕ) where
+  pub mark-held : {x : Receiver} → x ≡ cond silence (outsideOf (r .kind) (r .noise)) r → held x store ≡ afterMark silence (held r store)
+  mark-held e = ap (λ (x : Receiver). held x store) e ∙ go silence
+    where
+      go : (t : Bool) → held (cond t (outsideOf (r .kind) (r .noise)) r) store ≡ afterMark t (held r store)
+      go true = refl
+      go false = refl
+
+  pub mark-cuts : (m : ℕ) {t : Bool} → m ≡ numberOfMode (r .mode) → t ≡ (silence && pendingIn (modeOf m) (r .len)) → (silence && pending (held r store)) ≡ t
+  mark-cuts m e q = ap (λ (t : Bool). silence && t) (pending-by-number (r .mode) m (r .len) e refl) ∙ sym q
+
+-- a mark that cuts off is one
+pub cut-marks : (silence : Bool) (r : Record) → (silence && pending r) ≡ true → afterMark silence r ≡ silenced r
+cut-marks true r h = refl
+cut-marks false r h = absurd (false≢true h)
+
+-- a mark leaves the kind and the noise count
+kind-mark : (silence : Bool) (r : Record) → afterMark silence r .kind ≡ r .kind
+kind-mark true r = refl
+kind-mark false r = refl
+
+pub noise-mark : (silence : Bool) (r : Record) → afterMark silence r .noise ≡ r .noise
+noise-mark true r = refl
+noise-mark false r = refl
+
+-- asking for the noise count
 module _ (r : Record) where
-  pub silence-range : inRange r ≡ false → silenceOf r ≡ refusedCall 2 r []
-  unfolding silenceOf
-  silence-range h = rw h
-
-  pub silence-said : inRange r ≡ true → silenceOf r ≡ quiet r (cond (pending r) (gave (refused (number 9))) nothing)
-  unfolding silenceOf
-  silence-said h = rw h
-
-  pub silence-cut : inRange r ≡ true → pending r ≡ true → silenceOf r ≡ quiet r (gave (refused (number 9)))
-  silence-cut h p = silence-said h ∙ rw p
-
-  pub silence-idle : inRange r ≡ true → pending r ≡ false → silenceOf r ≡ quiet r nothing
-  silence-idle h p = silence-said h ∙ rw p
-
   pub noise-range : inRange r ≡ false → noiseOf r ≡ refused (number 2)
   unfolding noiseOf
   noise-range h = rw h
@@ -123,19 +135,22 @@ scan-taken [] n r = omega arith
 scan-taken (b ∷ piece) n r =
     by-test (λ (s : Scan). s .taken ≤ n + length (b ∷ piece)) (closes r b) (omega arith) (omega (arith, scan-taken piece (n + 1) (nextByte r b)))
 
-feed-taken : (r : Record) (piece buffer : List ℕ) → feedOf r piece buffer .result .taken ≤ length piece
+feed-taken : (r : Record) (silence : Bool) (piece buffer : List ℕ) → feedOf r silence piece buffer .result .taken ≤ length piece
 unfolding feedOf
-feed-taken r piece buffer =
+feed-taken r silence piece buffer =
     let within : Outcome → Type 0 = λ o. o .result .taken ≤ length piece in
-    let s = scanFrom 0 r piece in
-    let h : s .taken ≤ length piece = omega (arith, scan-taken piece 0 r) in
-    by-test within (inRange r) (by-test within (ltb (length buffer) 260) (omega arith) (by-test within (s .closed) h h)) (omega arith)
+    let s = scanFrom 0 (afterMark silence r) piece in
+    let h : s .taken ≤ length piece = omega (arith, scan-taken piece 0 (afterMark silence r)) in
+    by-test within (inRange r)
+    (by-test within (ltb (length buffer) 260) (omega arith) (by-test within (silence && pending r) (omega arith) (by-test within (s .closed) h h)))
+    (omega arith)
 
 -- the same, as a caller of `feed` has it from the contract
-pub taken-within : (f : Fed) (store after : List ℕ) (r : Record) (piece buffer : List ℕ) → paperFed f store after ≡ feedOf r piece buffer
-    → f .taken ≤ length piece
-taken-within f store after r piece buffer e =
-    let t : f .taken ≡ feedOf r piece buffer .result .taken = ap (λ (x : Outcome). x .result .taken) e in omega (arith, feed-taken r piece buffer)
+pub taken-within : (f : Fed) (store after : List ℕ) (r : Record) (silence : Bool) (piece buffer : List ℕ)
+    → paperFed f store after ≡ feedOf r silence piece buffer → f .taken ≤ length piece
+taken-within f store after r silence piece buffer e =
+    let t : f .taken ≡ feedOf r silence piece buffer .result .taken = ap (λ (x : Outcome). x .result .taken) e in
+    omega (arith, feed-taken r silence piece buffer)
 
 -- a piece of one byte is taken whole
 one-taken : (r : Record) (b : ℕ) → scanFrom 0 r (b ∷ []) .taken ≡ 1
@@ -172,16 +187,13 @@ kind-scan [] n r = refl
 kind-scan (b ∷ piece) n r =
     by-test (λ (s : Scan). s .before .kind ≡ r .kind) (closes r b) refl (kind-scan piece (n + 1) (nextByte r b) ∙ kind-next r b)
 
-kind-feed : (r : Record) (piece buffer : List ℕ) → feedOf r piece buffer .leaves .kind ≡ r .kind
+kind-feed : (r : Record) (silence : Bool) (piece buffer : List ℕ) → feedOf r silence piece buffer .leaves .kind ≡ r .kind
 unfolding feedOf
-kind-feed r piece buffer =
+kind-feed r silence piece buffer =
     let kept : Outcome → Type 0 = λ o. o .leaves .kind ≡ r .kind in
-    let h = kind-scan piece 0 r in
-    by-test kept (inRange r) (by-test kept (ltb (length buffer) 260) refl (by-test kept (scanFrom 0 r piece .closed) h h)) refl
-
-kind-silence : (r : Record) → silenceOf r .leaves .kind ≡ r .kind
-unfolding silenceOf
-kind-silence r = by-test (λ (o : Outcome). o .leaves .kind ≡ r .kind) (inRange r) refl refl
+    let s = scanFrom 0 (afterMark silence r) piece in
+    let h : s .before .kind ≡ r .kind = kind-scan piece 0 (afterMark silence r) ∙ kind-mark silence r in
+    by-test kept (inRange r) (by-test kept (ltb (length buffer) 260) refl (by-test kept (silence && pending r) refl (by-test kept (s .closed) h h))) refl
 
 -- the noise count stays within its range
 pub few-acted : (r : Record) (a : Act) → r .noise < 4294967296 → acted r a .noise < 4294967296
@@ -204,10 +216,7 @@ few-scan [] n r h = h
 few-scan (b ∷ piece) n r h =
     by-test (λ (s : Scan). s .before .noise < 4294967296) (closes r b) h (few-scan piece (n + 1) (nextByte r b) (few-next r b h))
 
--- the kind, as a caller has it from the contracts
-pub kind-fed : (f : Fed) (store after : List ℕ) (r : Record) (piece buffer : List ℕ) → paperFed f store after ≡ feedOf r piece buffer
-    → f .receiver .kind ≡ r .kind
-kind-fed f store after r piece buffer e = ap (λ (x : Outcome). x .leaves .kind) e ∙ kind-feed r piece buffer
-
-pub kind-quiet : (q : Quiet) (store : List ℕ) (r : Record) → paperQuiet q store ≡ silenceOf r → q .receiver .kind ≡ r .kind
-kind-quiet q store r e = ap (λ (x : Outcome). x .leaves .kind) e ∙ kind-silence r
+-- the kind, as a caller has it from the contract
+pub kind-fed : (f : Fed) (store after : List ℕ) (r : Record) (silence : Bool) (piece buffer : List ℕ)
+    → paperFed f store after ≡ feedOf r silence piece buffer → f .receiver .kind ≡ r .kind
+kind-fed f store after r silence piece buffer e = ap (λ (x : Outcome). x .leaves .kind) e ∙ kind-feed r silence piece buffer

@@ -1,11 +1,11 @@
 -- Demand 3: every series of calls gives what its stream says. Assumes nothing.
-use Prim.Native.Nat.{ℕ, _+_, _-_, _≤_, _<_}
+use Prim.Native.Nat.{ℕ, suc, _+_, _-_, _≤_, _<_}
 use native.Mathlib.Omega.{arith}
 use mathlib.Core.Path.{_≡_, refl, sym, ap, subst, _∙_}
 use mathlib.Core.Bool.{Bool, true, false, cond, _&&_, not, false≢true}
 use mathlib.Core.List.{List, [], _∷_, _++_, map, append-assoc, append-nil}
 use lib.Dec.{ltb, eqb}
-use lib.ListN.{length, take, drop, getD, replicate, length-append, length-replicate, take-append-drop}
+use lib.ListN.{length, take, drop, getD, replicate, length-append, length-drop, length-replicate, take-append-drop}
 use lib.Seq.{drop-append-seam}
 use borrow.Author.Tests.{ltb-true, ltb-false, lt-ltb, le-ltb, ne-eqb}
 use Rattle.refusal.specs.Refusals.{Numbered, number, _carrying_, numberIn, isPlaced, served, refused}
@@ -18,10 +18,10 @@ use Rattle.shdlc.specs.Stream.{Event, byte, mark, Item, Place, outside, next, g
 use Rattle.shdlc.proofs.Stream.{placeFrom, place-append, items-append, map-append}
 use Rattle.receiver.specs.declared.Mode.{Mode}
 use Rattle.receiver.specs.declared.Mode.the-variants.{Outside, Plain, Escaped, BadEscape, BareControl}
-use Rattle.receiver.specs.Record.{Record, fresh, opened, pending, itemIn, itemOf, nextByte, nextRecord, recordFrom, recordOf}
-use Rattle.receiver.specs.Calls.{Said, nothing, gave, Result, Outcome, saidOf, bufferOf, completed, unfinished, closes, Scan, scanFrom, feedOf}
-use Rattle.receiver.specs.Series.{Call, feeding, silence, upTo, added, streamFrom, streamOf, gained, giving, expected, expectedFrom, outcome, results, recordAfter, reported, reports, NoneRefused2, HandsIn, Demand3}
-use Rattle.receiver.proofs.Cases.{feed-room, feed-scan, silence-said, quiet}
+use Rattle.receiver.specs.Record.{Record, inRange, fresh, opened, silenced, pending, itemIn, itemOf, nextByte, nextRecord, recordFrom, recordOf}
+use Rattle.receiver.specs.Calls.{Said, nothing, gave, Result, Outcome, saidOf, bufferOf, completed, unfinished, closes, Scan, scanFrom, refusedCall, cutOff, afterMark, heard, feedOf}
+use Rattle.receiver.specs.Series.{Call, gains, upTo, marks, bytesAdded, eventsAdded, added, streamFrom, streamOf, gained, giving, expected, expectedFrom, outcome, results, recordAfter, refusesCall, reported, reports, NoneRefused2, turnedAway, handed, leftBy, HandsIn, Demand3}
+use Rattle.receiver.proofs.Cases.{feed-room, feed-heard}
 use Rattle.receiver.proofs.NoiseOfStream.{noise-stream}
 use Rattle.receiver.proofs.Simulation.{At, at-next, at-gain, at-range, at-fresh}
 
@@ -65,10 +65,9 @@ upToAt : Kind → Place → List ℕ → List ℕ
 upToAt kind place [] = []
 upToAt kind place (b ∷ piece) = b ∷ cond (some-item (gain kind place (byte b))) [] (upToAt kind (next place (byte b)) piece)
 
-gains-item : (kind : Kind) (stream : List Event) (b : ℕ)
-    → ltb (length (items kind stream)) (length (items kind (stream ++ (byte b ∷ [])))) ≡ some-item (gain kind (placeOf stream) (byte b))
-unfolding items itemsFrom
-gains-item kind stream b = rw (items-append, append-nil) (longer (itemsFrom kind outside stream) (gain kind (placeOf stream) (byte b)))
+gains-item : (kind : Kind) (stream : List Event) (event : Event) → gains kind stream (event ∷ []) ≡ some-item (gain kind (placeOf stream) event)
+unfolding gains items itemsFrom
+gains-item kind stream event = rw (items-append, append-nil) (longer (itemsFrom kind outside stream) (gain kind (placeOf stream) event))
 
 up-to-at : (kind : Kind) (piece : List ℕ) (stream : List Event) → upTo kind stream piece ≡ upToAt kind (placeOf stream) piece
 unfolding upTo upToAt placeFrom
@@ -84,7 +83,7 @@ up-to-front : (kind : Kind) (piece : List ℕ) (stream : List Event) → take (l
 unfolding upTo
 up-to-front kind [] stream = refl
 up-to-front kind (b ∷ piece) stream =
-    cut-short (ltb (length (items kind stream)) (length (items kind (stream ++ (byte b ∷ []))))) b (upTo kind (stream ++ (byte b ∷ [])) piece) piece
+    cut-short (gains kind stream (byte b ∷ [])) b (upTo kind (stream ++ (byte b ∷ [])) piece) piece
     (up-to-front kind piece (stream ++ (byte b ∷ [])))
 
 up-to-some : (kind : Kind) (piece : List ℕ) (stream : List Event) → 1 ≤ length piece → 1 ≤ length (upTo kind stream piece)
@@ -200,11 +199,15 @@ abbrev One : List Item → Type 0
 One [] = Unit {0}
 One (i ∷ l) = Proper i × (l ≡ [])
 
+-- which is no number that refuses a call
+refuses-none : (n : Numbered) → Proper (refused n) → refusesCall n ≡ false
+refuses-none (number k) h = rw (ne-eqb k 1 (λ e. omega (arith, h .1)), ne-eqb k 2 (λ e. omega (arith, h .1)))
+refuses-none (k carrying value) h = refl
+
 -- what a call gives is reported again as what was gained
 report-item : (i : Item) (buffer : List ℕ) → Proper i → reported (saidOf i) (bufferOf i buffer) ≡ i ∷ []
 report-item (served body) buffer h = ap (λ (s : List ℕ). served s ∷ []) (take-overlay buffer body)
-report-item (refused (number k)) buffer h = rw (ne-eqb k 1 (λ e. omega (arith, h .1)))
-report-item (refused (k carrying value)) buffer h = refl
+report-item (refused n) buffer h = rw (refuses-none n h)
 
 reports-back : (g : List Item) (n : ℕ) (buffer : List ℕ) → One g → reported (giving g n buffer .said) (giving g n buffer .buffer) ≡ g
 reports-back [] n buffer h = refl
@@ -265,78 +268,122 @@ fed-leaves false r n buffer = refl
 abbrev cut : Bool → List Item
 cut t = cond t (refused (number 9) ∷ []) []
 
-one-cut : (t : Bool) → One (cut t)
-one-cut true = (proper-number 9 refl (omega arith), refl)
-one-cut false = tt
+some-cut : (t : Bool) → some-item (cut t) ≡ t
+unfolding some-item
+some-cut true = refl
+some-cut false = refl
 
-quiet-result : (t : Bool) (r : Record) → quiet r (cond t (gave (refused (number 9))) nothing) .result ≡ giving (cut t) 0 []
-quiet-result true r = refl
-quiet-result false r = refl
+-- a call that is not refused, from a place: the events that it adds
+record Adds (kind : Kind) (stream : List Event) (r : Record) (silence : Bool) (piece buffer : List ℕ) : Type 0 where
+  gives : heard r silence piece buffer .result
+      ≡ giving (gained kind stream (eventsAdded kind stream silence piece)) (length (bytesAdded kind stream silence piece)) buffer
+  leaves : heard r silence piece buffer .leaves ≡ recordFrom r (eventsAdded kind stream silence piece)
+  one : One (gained kind stream (eventsAdded kind stream silence piece))
 
-module _ (kind : Kind) (stream : List Event) (r : Record) (h : At kind (placeOf stream) r) where
-  gained-mark : gained kind stream (mark ∷ []) ≡ cut (pending r)
-  unfolding itemsFrom
-  gained-mark =
-      gained-at kind stream (mark ∷ []) ∙ append-nil (gain kind (placeOf stream) mark) ∙ sym (at-gain kind (placeOf stream) r mark h)
+-- without a mark
+adds-bytes : (kind : Kind) (stream : List Event) (r : Record) → At kind (placeOf stream) r → (piece buffer : List ℕ)
+    → Adds kind stream r false piece buffer
+unfolding bytesAdded
+adds-bytes kind stream r h piece buffer =
+    let s = scanFrom 0 r piece in
+    let u : upTo kind stream piece ≡ upToAt kind (placeOf stream) piece = up-to-at kind piece stream in
+    let q = scans kind piece (placeOf stream) r 0 h in
+    let n : s .taken ≡ length (upTo kind stream piece) = omega (arith, q .taken, ap length u) in
+    let g : gained kind stream (map byte (upTo kind stream piece)) ≡ shown s =
+    gained-at kind stream (map byte (upTo kind stream piece))
+    ∙ ap (λ (x : List ℕ). itemsFrom kind (placeOf stream) (map byte x)) u
+    ∙ sym (q .item) in
+    record {
+      gives = rw g (fed-result (s .closed) (s .before) (s .taken) buffer ∙ ap (λ (m : ℕ). giving (shown s) m buffer) n);
+      leaves = fed-leaves (s .closed) (s .before) (s .taken) buffer ∙ q .leaves ∙ sym (ap (λ (x : List ℕ). recordFrom r (map byte x)) u);
+      one = rw g (one-shown (s .closed) (s .before));
+    }
 
-  meets-silence : Meets kind stream r silence
-  unfolding expected added recordFrom nextRecord
-  meets-silence =
-      let q = silence-said r (at-range kind (placeOf stream) r h) in
-      let g = gained-mark in
+-- with one
+module _ (kind : Kind) (stream : List Event) (r : Record) (h : At kind (placeOf stream) r) (piece buffer : List ℕ) where
+  gained-mark : (more : List Event) → gained kind stream (mark ∷ more) ≡ cut (pending r) ++ gained kind (stream ++ (mark ∷ [])) more
+  unfolding itemsFrom placeFrom
+  gained-mark more =
+      gained-at kind stream (mark ∷ more)
+      ∙ ap (λ (g : List Item). g ++ itemsFrom kind (next (placeOf stream) mark) more) (sym (at-gain kind (placeOf stream) r mark h))
+      ∙ ap (λ (g : List Item). cut (pending r) ++ g)
+      (sym (gained-at kind (stream ++ (mark ∷ [])) more ∙ ap (λ (p : Place). itemsFrom kind p more) (place-append stream (mark ∷ []) outside)))
+
+  gains-mark : gains kind stream (mark ∷ []) ≡ pending r
+  gains-mark = gains-item kind stream mark ∙ ap some-item (sym (at-gain kind (placeOf stream) r mark h)) ∙ some-cut (pending r)
+
+  adds-cut : pending r ≡ true → Adds kind stream r true piece buffer
+  unfolding bytesAdded itemsFrom recordFrom nextRecord
+  adds-cut p =
+      let none : gained kind (stream ++ (mark ∷ [])) [] ≡ [] = gained-at kind (stream ++ (mark ∷ [])) [] in
+      let g : gained kind stream (mark ∷ []) ≡ refused (number 9) ∷ [] =
+      gained-mark [] ∙ ap (λ (t : Bool). cut t ++ gained kind (stream ++ (mark ∷ [])) []) p ∙ ap (λ (l : List Item). refused (number 9) ∷ l) none in
       record {
-        gives = rw g (ap (λ (x : Outcome). x .result) q ∙ quiet-result (pending r) r);
-        leaves = ap (λ (x : Outcome). x .leaves) q;
-        reports = rw g (reports-back (cut (pending r)) 0 [] (one-cut (pending r)));
-        says = rw g (sayable-giving (cut (pending r)) 0 [] (one-cut (pending r)));
+        gives = rw (gains-mark ∙ p, g, p);
+        leaves = rw (gains-mark ∙ p, p);
+        one = rw (gains-mark ∙ p, g) (proper-number 9 refl (omega arith), refl);
       }
 
-  module _ (piece buffer : List ℕ) where
-    meets-small : length buffer < 260 → Meets kind stream r (feeding piece buffer)
-    unfolding expected added recordFrom itemsFrom
-    meets-small l =
-        let f = feed-room r piece buffer (at-range kind (placeOf stream) r h) l in
-        let e = lt-ltb (length buffer) 260 l in
-        record {
-          gives = rw e (ap (λ (x : Outcome). x .result) f);
-          leaves = rw e (ap (λ (x : Outcome). x .leaves) f);
-          reports = rw e (sym (gained-at kind stream []));
-          says = rw e (refl, omega arith, λ q. omega arith);
-        }
+  adds-after : pending r ≡ false → Adds kind stream r true piece buffer
+  unfolding bytesAdded placeFrom recordFrom nextRecord
+  adds-after p =
+      let after = stream ++ (mark ∷ []) in
+      let there : At kind (placeOf after) (silenced r) = rw place-append (at-next kind (placeOf stream) r mark h) in
+      let a = adds-bytes kind after (silenced r) there piece buffer in
+      let g : gained kind stream (mark ∷ map byte (upTo kind after piece)) ≡ gained kind after (map byte (upTo kind after piece)) =
+      gained-mark (map byte (upTo kind after piece)) ∙ ap (λ (t : Bool). cut t ++ gained kind after (map byte (upTo kind after piece))) p in
+      record {
+        gives = rw (gains-mark ∙ p, g, p) (a .gives);
+        leaves = rw (gains-mark ∙ p, p) (a .leaves);
+        one = rw (gains-mark ∙ p, g) (a .one);
+      }
 
-    meets-large : 260 ≤ length buffer → Meets kind stream r (feeding piece buffer)
-    unfolding expected added
-    meets-large l =
-        let s = scanFrom 0 r piece in
-        let f = feed-scan r piece buffer (at-range kind (placeOf stream) r h) l in
-        let e = le-ltb (length buffer) 260 l in
-        let u : upTo kind stream piece ≡ upToAt kind (placeOf stream) piece = up-to-at kind piece stream in
-        let q = scans kind piece (placeOf stream) r 0 h in
-        let n : s .taken ≡ length (upTo kind stream piece) = omega (arith, q .taken, ap length u) in
-        let g : gained kind stream (map byte (upTo kind stream piece)) ≡ shown s =
-        gained-at kind stream (map byte (upTo kind stream piece))
-        ∙ ap (λ (x : List ℕ). itemsFrom kind (placeOf stream) (map byte x)) u
-        ∙ sym (q .item) in
-        record {
-          gives =
-              rw (e, g)
-              (ap (λ (x : Outcome). x .result) f ∙ fed-result (s .closed) (s .before) (s .taken) buffer
-              ∙ ap (λ (m : ℕ). giving (shown s) m buffer) n);
-          leaves =
-              rw e
-              (ap (λ (x : Outcome). x .leaves) f ∙ fed-leaves (s .closed) (s .before) (s .taken) buffer ∙ q .leaves
-              ∙ sym (ap (λ (x : List ℕ). recordFrom r (map byte x)) u));
-          reports = rw (e, g) (reports-back (shown s) _ buffer (one-shown (s .closed) (s .before)));
-          says = rw (e, g) (sayable-giving (shown s) _ buffer (one-shown (s .closed) (s .before)));
-        }
-
-  meets : (call : Call) → Meets kind stream r call
-  meets silence = meets-silence
-  meets (feeding piece buffer) = go (ltb (length buffer) 260) refl
+  adds-mark : Adds kind stream r true piece buffer
+  adds-mark = go (pending r) refl
     where
-      go : (t : Bool) → ltb (length buffer) 260 ≡ t → Meets kind stream r (feeding piece buffer)
-      go true e = meets-small piece buffer (ltb-true _ _ e)
-      go false e = meets-large piece buffer (ltb-false _ _ e)
+      go : (t : Bool) → pending r ≡ t → Adds kind stream r true piece buffer
+      go true e = adds-cut e
+      go false e = adds-after e
+
+adds : (kind : Kind) (stream : List Event) (r : Record) → At kind (placeOf stream) r → (silence : Bool) (piece buffer : List ℕ)
+    → Adds kind stream r silence piece buffer
+adds kind stream r h true piece buffer = adds-mark kind stream r h piece buffer
+adds kind stream r h false piece buffer = adds-bytes kind stream r h piece buffer
+
+module _ (kind : Kind) (stream : List Event) (r : Record) (h : At kind (placeOf stream) r) (call : Call) where
+  meets-small : length (call .buffer) < 260 → Meets kind stream r call
+  unfolding expected added recordFrom itemsFrom
+  meets-small l =
+      let f = feed-room r (call .silence) (call .piece) (call .buffer) (at-range kind (placeOf stream) r h) l in
+      let e = lt-ltb (length (call .buffer)) 260 l in
+      record {
+        gives = rw e (ap (λ (x : Outcome). x .result) f);
+        leaves = rw e (ap (λ (x : Outcome). x .leaves) f);
+        reports = rw e (sym (gained-at kind stream []));
+        says = rw e (refl, omega arith, λ q. omega arith);
+      }
+
+  meets-large : 260 ≤ length (call .buffer) → Meets kind stream r call
+  unfolding expected added
+  meets-large l =
+      let f = feed-heard r (call .silence) (call .piece) (call .buffer) (at-range kind (placeOf stream) r h) l in
+      let e = le-ltb (length (call .buffer)) 260 l in
+      let a = adds kind stream r h (call .silence) (call .piece) (call .buffer) in
+      let g = gained kind stream (eventsAdded kind stream (call .silence) (call .piece)) in
+      let n = length (bytesAdded kind stream (call .silence) (call .piece)) in
+      record {
+        gives = rw e (ap (λ (x : Outcome). x .result) f ∙ a .gives);
+        leaves = rw e (ap (λ (x : Outcome). x .leaves) f ∙ a .leaves);
+        reports = rw e (reports-back g n (call .buffer) (a .one));
+        says = rw e (sayable-giving g n (call .buffer) (a .one));
+      }
+
+  meets : Meets kind stream r call
+  meets = go (ltb (length (call .buffer)) 260) refl
+    where
+      go : (t : Bool) → ltb (length (call .buffer)) 260 ≡ t → Meets kind stream r call
+      go true e = meets-small (ltb-true _ _ e)
+      go false e = meets-large (ltb-false _ _ e)
 
 -- a call with the record that a stream leaves
 meets-stream : (kind : Kind) (stream : List Event) (r : Record) → r ≡ recordOf kind stream → (call : Call) → Meets kind stream r call
@@ -391,93 +438,179 @@ from-fresh kind calls = goes kind calls [] (fresh kind) (fresh-is kind)
 end : (kind : Kind) (calls : List Call) → recordAfter (fresh kind) calls ≡ recordOf kind (streamOf kind calls)
 end kind calls = from-fresh kind calls .leaves
 
--- what a feeding call adds is what it reports as taken, and the rest of its piece is left
+-- what a call that is not refused adds is what it reports as taken, and the rest of its piece is left
 giving-taken : (g : List Item) (n : ℕ) (buffer : List ℕ) → giving g n buffer .taken ≡ n
 giving-taken [] n buffer = refl
 giving-taken (i ∷ l) n buffer = refl
 
-taken-added : (kind : Kind) (stream : List Event) (piece buffer : List ℕ)
-    → added kind stream (feeding piece buffer) ≡ map byte (take (expected kind stream (feeding piece buffer) .taken) piece)
-unfolding added expected
-taken-added kind stream piece buffer =
-    go (ltb (length buffer) 260) (gained kind stream (map byte (upTo kind stream piece)))
+giving-kept : (g : List Item) (n : ℕ) (buffer : List ℕ) → One g → turnedAway (giving g n buffer .said) ≡ false
+giving-kept [] n buffer h = refl
+giving-kept (served body ∷ l) n buffer h = refl
+giving-kept (refused k ∷ l) n buffer h = refuses-none k (h .0)
+
+bytes-front : (kind : Kind) (stream : List Event) (silence : Bool) (piece : List ℕ)
+    → take (length (bytesAdded kind stream silence piece)) piece ≡ bytesAdded kind stream silence piece
+unfolding bytesAdded
+bytes-front kind stream true piece = go (gains kind stream (mark ∷ []))
   where
-    go : (t : Bool) (g : List Item)
-        → cond t [] (map byte (upTo kind stream piece))
-        ≡ map byte (take (cond t (record { said = gave (refused (number 1)); taken = 0; buffer = buffer }) (giving g (length (upTo kind stream piece)) buffer) .taken) piece)
-    go true g = refl
-    go false g = ap (map byte) (sym (ap (λ (n : ℕ). take n piece) (giving-taken g (length (upTo kind stream piece)) buffer) ∙ up-to-front kind piece stream))
+    go : (t : Bool) → take (length (cond t [] (upTo kind (stream ++ (mark ∷ [])) piece))) piece ≡ cond t [] (upTo kind (stream ++ (mark ∷ [])) piece)
+    go true = refl
+    go false = up-to-front kind piece (stream ++ (mark ∷ []))
+bytes-front kind stream false piece = up-to-front kind piece stream
 
-taken-and-left : (kind : Kind) (stream : List Event) (piece buffer : List ℕ) (n : ℕ) → n ≡ expected kind stream (feeding piece buffer) .taken
-    → added kind stream (feeding piece buffer) ++ map byte (drop n piece) ≡ map byte piece
-taken-and-left kind stream piece buffer n e =
-    ap (λ (l : List Event). l ++ map byte (drop n piece))
-    (taken-added kind stream piece buffer ∙ ap (λ (m : ℕ). map byte (take m piece)) (sym e))
-    ∙ sym (map-append (take n piece) (drop n piece))
-    ∙ ap (map byte) (take-append-drop n piece)
+-- the flag goes with the rest of a refused call, and not with that of any other
+all-marks : (silence : Bool) → (silence && true) ≡ silence
+all-marks true = refl
+all-marks false = refl
 
-mark-front : (kind : Kind) (stream rest : List Event) → (stream ++ added kind stream silence) ++ rest ≡ stream ++ (mark ∷ rest)
-unfolding added
-mark-front kind stream rest = append-assoc stream (mark ∷ []) rest
+no-marks : (silence : Bool) → (silence && false) ≡ false
+no-marks true = refl
+no-marks false = refl
+
+module _ (kind : Kind) (stream : List Event) (r : Record) (e : r ≡ recordOf kind stream) (call : Call) where
+  abbrev result : Result
+  result = outcome r call .result
+
+  left-small : length (call .buffer) < 260 → leftBy call result ≡ handed call
+  unfolding expected
+  left-small l =
+      let g : result ≡ record { said = gave (refused (number 1)); taken = 0; buffer = call .buffer } =
+      meets-stream kind stream r e call .gives ∙ rw (lt-ltb (length (call .buffer)) 260 l) in
+      ap (leftBy call) g ∙ ap (λ (t : Bool). marks t ++ map byte (call .piece)) (all-marks (call .silence))
+
+  left-large : 260 ≤ length (call .buffer) → leftBy call result ≡ map byte (drop (length (bytesAdded kind stream (call .silence) (call .piece))) (call .piece))
+  unfolding expected
+  left-large l =
+      let a = adds kind stream r (subst (At kind (placeOf stream)) (sym e) (at-stream kind stream)) (call .silence) (call .piece) (call .buffer) in
+      let n = length (bytesAdded kind stream (call .silence) (call .piece)) in
+      let items = gained kind stream (eventsAdded kind stream (call .silence) (call .piece)) in
+      let g : result ≡ giving items n (call .buffer) =
+      meets-stream kind stream r e call .gives ∙ rw (le-ltb (length (call .buffer)) 260 l) in
+      ap (leftBy call) g
+      ∙ ap (λ (t : Bool). marks (call .silence && t) ++ map byte (drop (giving items n (call .buffer) .taken) (call .piece))) (giving-kept items n (call .buffer) (a .one))
+      ∙ ap (λ (t : Bool). marks t ++ map byte (drop (giving items n (call .buffer) .taken) (call .piece))) (no-marks (call .silence))
+      ∙ ap (λ (m : ℕ). map byte (drop m (call .piece))) (giving-taken items n (call .buffer))
+
+  -- what a call adds and what it leaves is what it hands in
+  added-and-left : added kind stream call ++ leftBy call result ≡ handed call
+  unfolding added
+  added-and-left = go (ltb (length (call .buffer)) 260) refl
+    where
+      go : (t : Bool) → ltb (length (call .buffer)) 260 ≡ t
+          → cond t [] (eventsAdded kind stream (call .silence) (call .piece)) ++ leftBy call result ≡ handed call
+      go true s = left-small (ltb-true _ _ s)
+      go false s =
+          let b = bytesAdded kind stream (call .silence) (call .piece) in
+          ap (λ (l : List Event). eventsAdded kind stream (call .silence) (call .piece) ++ l) (left-large (ltb-false _ _ s))
+          ∙ append-assoc (marks (call .silence)) (map byte b) (map byte (drop (length b) (call .piece)))
+          ∙ ap (λ (l : List Event). marks (call .silence) ++ l)
+          (sym (map-append b (drop (length b) (call .piece)))
+          ∙ ap (λ (l : List ℕ). map byte (l ++ drop (length b) (call .piece))) (sym (bytes-front kind stream (call .silence) (call .piece)))
+          ∙ ap (map byte) (take-append-drop (length b) (call .piece)))
 
 whole : (kind : Kind) (calls : List Call) (stream left : List Event) (r : Record) → r ≡ recordOf kind stream → HandsIn r left calls
     → streamFrom kind stream calls ≡ stream ++ left
 unfolding HandsIn streamFrom
 whole kind [] stream left r e h = rw h (sym (append-nil stream))
-whole kind (silence ∷ calls) stream left r e h =
-    whole kind calls (stream ++ added kind stream silence) (h .0) (outcome r silence .leaves) (leaves-stream kind stream r e silence) (h .2)
-    ∙ mark-front kind stream (h .0)
-    ∙ ap (λ (l : List Event). stream ++ l) (sym (h .1))
-whole kind (feeding piece buffer ∷ calls) stream left r e h =
-    let call = feeding piece buffer in
-    let n = feedOf r piece buffer .result .taken in
-    let taken : n ≡ expected kind stream call .taken = ap (λ (x : Result). x .taken) (meets-stream kind stream r e call .gives) in
-    whole kind calls (stream ++ added kind stream call) (map byte (drop n piece) ++ h .0) (outcome r call .leaves)
-    (leaves-stream kind stream r e call) (h .2)
-    ∙ append-assoc stream (added kind stream call) (map byte (drop n piece) ++ h .0)
+whole kind (call ∷ calls) stream left r e h =
+    let rest = h .0 in
+    let over = leftBy call (outcome r call .result) in
+    whole kind calls (stream ++ added kind stream call) (over ++ rest) (outcome r call .leaves) (leaves-stream kind stream r e call) (h .2)
+    ∙ append-assoc stream (added kind stream call) (over ++ rest)
     ∙ ap (λ (l : List Event). stream ++ l)
-    (sym (append-assoc (added kind stream call) (map byte (drop n piece)) (h .0))
-    ∙ ap (λ (l : List Event). l ++ h .0) (taken-and-left kind stream piece buffer n taken)
+    (sym (append-assoc (added kind stream call) over rest)
+    ∙ ap (λ (l : List Event). l ++ rest) (added-and-left kind stream r e call)
     ∙ sym (h .1))
 
-expected-taken : (kind : Kind) (stream : List Event) (piece buffer : List ℕ) → 260 ≤ length buffer
-    → expected kind stream (feeding piece buffer) .taken ≡ length (upTo kind stream piece)
-unfolding expected
-expected-taken kind stream piece buffer l =
-    rw (le-ltb (length buffer) 260 l)
-    (giving-taken (gained kind stream (map byte (upTo kind stream piece))) (length (upTo kind stream piece)) buffer)
+-- a series after another
+stream-append : (kind : Kind) (calls more : List Call) (stream : List Event)
+    → streamFrom kind stream (calls ++ more) ≡ streamFrom kind (streamFrom kind stream calls) more
+unfolding streamFrom
+stream-append kind [] more stream = refl
+stream-append kind (call ∷ calls) more stream = stream-append kind calls more (stream ++ added kind stream call)
 
-some-taken : (kind : Kind) (stream : List Event) (r : Record) (piece buffer : List ℕ) → r ≡ recordOf kind stream → 1 ≤ length piece → 260 ≤ length buffer
-    → 1 ≤ feedOf r piece buffer .result .taken
-some-taken kind stream r piece buffer e h l =
-    let gives : feedOf r piece buffer .result .taken ≡ expected kind stream (feeding piece buffer) .taken =
-    ap (λ (x : Result). x .taken) (meets-stream kind stream r e (feeding piece buffer) .gives) in
-    omega (arith, gives, expected-taken kind stream piece buffer l, up-to-some kind piece stream h)
+-- a call that is refused leaves all that it hands in
+left-all : (call : Call) (n : Numbered) → refusesCall n ≡ true
+    → leftBy call (record { said = gave (refused n); taken = 0; buffer = call .buffer }) ≡ handed call
+left-all call n h = ap (λ (t : Bool). marks (call .silence && t) ++ map byte (call .piece)) h ∙ ap (λ (t : Bool). marks t ++ map byte (call .piece)) (all-marks (call .silence))
 
--- a piece of one byte is taken whole where there is room
-one-byte : (kind : Kind) (stream : List Event) (b : ℕ) → length (upTo kind stream (b ∷ [])) ≡ 1
-unfolding upTo
-one-byte kind stream b = go (ltb (length (items kind stream)) (length (items kind (stream ++ (byte b ∷ [])))))
+not-refused : (i : Item) (n : ℕ) → Proper i → refusesCall (number n) ≡ true → saidOf i ≡ gave (refused (number n)) → ⊥
+not-refused (served body) n p h e = let z : _≡_ {A = ℕ} 0 1 = cc in omega arith
+not-refused (refused m) n p h e =
+    let same : m ≡ number n = cc in
+    false≢true (sym (refuses-none m p) ∙ ap refusesCall same ∙ h)
+
+nothing-said : (n : Numbered) → nothing ≡ gave (refused n) → ⊥
+nothing-said n e = let z : _≡_ {A = ℕ} 0 1 = cc in omega arith
+
+abbrev All : Record → Call → Outcome → Type 0
+All r call o = (leftBy call (o .result) ≡ handed call) × (o .leaves ≡ r)
+
+refused-all : (r : Record) (call : Call) (n : ℕ) → refusesCall (number n) ≡ true → outcome r call .result .said ≡ gave (refused (number n))
+    → All r call (outcome r call)
+unfolding feedOf
+refused-all r call n h = go (inRange r) (ltb (length (call .buffer)) 260) (call .silence && pending r) (s .closed)
   where
-    go : (t : Bool) → length (b ∷ cond t [] []) ≡ 1
-    go true = refl
-    go false = refl
+    s : Scan
+    s = scanFrom 0 (afterMark (call .silence) r) (call .piece)
+
+    go : (t u v w : Bool)
+        → (cond t (cond u (refusedCall 1 r (call .buffer)) (cond v (cutOff r (call .buffer)) (cond w (completed (s .before) (s .taken) (call .buffer)) (unfinished (s .before) (s .taken) (call .buffer))))) (refusedCall 2 r (call .buffer))) .result .said
+        ≡ gave (refused (number n))
+        → All r call (cond t (cond u (refusedCall 1 r (call .buffer)) (cond v (cutOff r (call .buffer)) (cond w (completed (s .before) (s .taken) (call .buffer)) (unfinished (s .before) (s .taken) (call .buffer))))) (refusedCall 2 r (call .buffer)))
+    go false u v w e = (left-all call (number 2) refl, refl)
+    go true true v w e = (left-all call (number 1) refl, refl)
+    go true false true w e = absurd (not-refused (refused (number 9)) n (proper-number 9 refl (omega arith)) h e)
+    go true false false true e = absurd (not-refused (itemOf (s .before)) n (proper-item (s .before .mode) (s .before .kind) (s .before .len) (s .before .store)) h e)
+    go true false false false e = absurd (nothing-said (number n) e)
+
+-- a call that is not refused leaves less than it hands in
+length-bytes : (l : List ℕ) → length (map byte l) ≡ length l
+length-bytes [] = refl
+length-bytes (b ∷ l) = ap suc (length-bytes l)
+
+fewer : (kind : Kind) (stream : List Event) (silence : Bool) (piece : List ℕ) → 1 ≤ length (marks silence ++ map byte piece)
+    → length (map byte (drop (length (bytesAdded kind stream silence piece)) piece)) < length (marks silence ++ map byte piece)
+unfolding bytesAdded
+fewer kind stream true piece h =
+    let b = cond (gains kind stream (mark ∷ [])) [] (upTo kind (stream ++ (mark ∷ [])) piece) in
+    omega (arith, length-bytes (drop (length b) piece), length-bytes piece, length-drop (length b) piece)
+fewer kind stream false piece h =
+    let b = upTo kind stream piece in
+    omega (arith, length-bytes (drop (length b) piece), length-bytes piece, length-drop (length b) piece, up-to-some kind piece stream (omega (arith, length-bytes piece)))
+
+leaves-less : (kind : Kind) (stream : List Event) (r : Record) → r ≡ recordOf kind stream → (call : Call) → 1 ≤ length (handed call)
+    → 260 ≤ length (call .buffer) → length (leftBy call (outcome r call .result)) < length (handed call)
+leaves-less kind stream r e call h l = rw (left-large kind stream r e call l) (fewer kind stream (call .silence) (call .piece) h)
+
+-- a mark, or a byte, by itself is taken where there is room
+abbrev alone : Event → Call
+alone mark = record { silence = true; piece = []; buffer = replicate 260 0 }
+alone (byte b) = record { silence = false; piece = b ∷ []; buffer = replicate 260 0 }
+
+alone-hands : (event : Event) → handed (alone event) ≡ event ∷ []
+alone-hands mark = refl
+alone-hands (byte b) = refl
+
+alone-room : (event : Event) → 260 ≤ length (alone event .buffer)
+alone-room mark = omega (arith, length-replicate {A = ℕ} 260 0)
+alone-room (byte b) = omega (arith, length-replicate {A = ℕ} 260 0)
+
+none-left : {A : Type 0} (l : List A) → length l < 1 → l ≡ []
+none-left [] h = refl
+none-left (x ∷ l) h = absurd (omega arith)
 
 -- wherever a series stands, what is left can be handed in
 hands-in : (kind : Kind) (left stream : List Event) (r : Record) → r ≡ recordOf kind stream → (calls : List Call) × HandsIn r left calls
 unfolding HandsIn
 hands-in kind [] stream r e = ([], refl)
-hands-in kind (mark ∷ left) stream r e =
-    let t = hands-in kind left (stream ++ added kind stream silence) (outcome r silence .leaves) (leaves-stream kind stream r e silence) in
-    (silence ∷ t .0, (left, refl, t .1))
-hands-in kind (byte b ∷ left) stream r e =
-    let room : List ℕ = replicate 260 0 in
-    let call = feeding (b ∷ []) room in
-    let size : 260 ≤ length room = omega (arith, length-replicate {A = ℕ} 260 0) in
-    let one : feedOf r (b ∷ []) room .result .taken ≡ 1 =
-    ap (λ (x : Result). x .taken) (meets-stream kind stream r e call .gives) ∙ expected-taken kind stream (b ∷ []) room size ∙ one-byte kind stream b in
+hands-in kind (event ∷ left) stream r e =
+    let call = alone event in
+    let one : length (handed call) ≡ 1 = ap length (alone-hands event) in
+    let less = leaves-less kind stream r e call (omega arith) (alone-room event) in
+    let none : leftBy call (outcome r call .result) ≡ [] = none-left _ (omega arith) in
     let t = hands-in kind left (stream ++ added kind stream call) (outcome r call .leaves) (leaves-stream kind stream r e call) in
-    (call ∷ t .0, (left, refl, subst (λ (m : ℕ). HandsIn (feedOf r (b ∷ []) room .leaves) (map byte (drop m (b ∷ [])) ++ left) (t .0)) (sym one) (t .1)))
+    (call ∷ t .0, (left, sym (ap (λ (l : List Event). l ++ left) (alone-hands event)), subst (λ (l : List Event). HandsIn (outcome r call .leaves) (l ++ left) (t .0)) (sym none) (t .1)))
 
 pub all-sayable : (kind : Kind) (calls : List Call) → AllSayable (results (fresh kind) calls)
 all-sayable kind calls = let g = from-fresh kind calls in rw (g .gives) (g .says)
@@ -493,7 +626,10 @@ demand3 kind =
       noise-count = λ calls. ap (λ (r : Record). r .noise) (end kind calls) ∙ noise-stream kind (streamOf kind calls);
       one-record = λ calls others same. end kind calls ∙ ap (recordOf kind) same ∙ sym (end kind others);
       in-ranges = λ stream. at-range kind (placeOf stream) (recordOf kind stream) (at-stream kind stream);
-      every-cut = λ stream calls h. whole kind calls [] stream (fresh kind) (fresh-is kind) h;
+      every-cut =
+          λ calls left more h.
+          stream-append kind calls more [] ∙ whole kind more (streamOf kind calls) left (recordAfter (fresh kind) calls) (end kind calls) h;
       handed-in = λ calls left. hands-in kind left (streamOf kind calls) (recordAfter (fresh kind) calls) (end kind calls);
-      progress = λ calls piece buffer h l. some-taken kind (streamOf kind calls) (recordAfter (fresh kind) calls) piece buffer (end kind calls) h l;
+      refused-call = refused-all;
+      progress = λ calls call h l. leaves-less kind (streamOf kind calls) (recordAfter (fresh kind) calls) (end kind calls) call h l;
     }

@@ -3,6 +3,7 @@ pub mod Bytes
 pub mod Modes
 pub mod Turns
 pub mod Cases
+pub mod OneByte
 pub mod Place
 pub mod Simulation
 pub mod NoiseOfStream

@@ -13,9 +13,8 @@ use Rattle.receiver.specs.declared.Answer.the-variants as answer
 use Rattle.receiver.specs.declared.Made.{Made}
 use Rattle.receiver.specs.declared.Made.the-variants as made
 use Rattle.receiver.specs.declared.Fed.{Fed}
-use Rattle.receiver.specs.declared.Quiet.{Quiet}
 use Rattle.receiver.specs.Record.{held}
-use Rattle.receiver.specs.Calls.{nothing, gave, Outcome, paperAnswer, paperFed, paperQuiet, paperMade}
+use Rattle.receiver.specs.Calls.{nothing, gave, Outcome, paperAnswer, paperFed, paperMade}
 
 pub held-one-to-one : (r s : Receiver) (store other : List ℕ) → held r store ≡ held s other → r ≡ s
 held-one-to-one r s store other e = λ i. record { kind = e i .kind; mode = e i .mode; len = e i .len; noise = e i .noise }
@@ -43,12 +42,6 @@ fed-one-to-one f g store other buffer room e =
     let r : f .receiver ≡ g .receiver = held-one-to-one (f .receiver) (g .receiver) store other (ap (λ (x : Outcome). x .leaves) e) in
     let a : f .answer ≡ g .answer = answer-one-to-one (f .answer) (g .answer) (ap (λ (x : Outcome). x .result .said) e) in
     λ i. record { receiver = r i; taken = e i .result .taken; answer = a i }
-
-pub quiet-one-to-one : (f g : Quiet) (store other : List ℕ) → paperQuiet f store ≡ paperQuiet g other → f ≡ g
-quiet-one-to-one f g store other e =
-    let r : f .receiver ≡ g .receiver = held-one-to-one (f .receiver) (g .receiver) store other (ap (λ (x : Outcome). x .leaves) e) in
-    let a : f .answer ≡ g .answer = answer-one-to-one (f .answer) (g .answer) (ap (λ (x : Outcome). x .result .said) e) in
-    λ i. record { receiver = r i; answer = a i }
 
 pub made-one-to-one : (a b : Made) (store other : List ℕ) → paperMade a store ≡ paperMade b other → a ≡ b
 made-one-to-one (made.Fresh r) (made.Fresh s) store other e =

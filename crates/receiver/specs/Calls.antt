@@ -1,6 +1,6 @@
--- What each call gives for every record, piece and lent buffer. To be believed are the words of an answer, `freshOf`, `noiseOf`, and that
--- `feedOf` and `silenceOf` give refusal 2, with all as it was, exactly for a record that is not in range. The rest is the model of the code:
--- demand 3 (Series.antt) ties it to the stream.
+-- What each call gives for every record, flag, piece and lent buffer. To be believed are the words of an answer, with `saidOf` and
+-- `bufferOf`, `freshOf`, `noiseOf`, and that `feedOf` gives refusal 2, with all as it was, exactly for a record that is not in range. The
+-- rest is the model of the code: demand 3 (Series.antt) ties it to the stream.
 use Prim.Native.Nat.{ℕ, _+_}
 use mathlib.Core.Bool.{Bool, true, false, cond, _&&_}
 use mathlib.Core.List.{List, [], _∷_}
@@ -16,7 +16,6 @@ use Rattle.receiver.specs.declared.Made.{Made}
 use Rattle.receiver.specs.declared.Made.the-variants as made
 use Rattle.receiver.specs.declared.Fed.{Fed}
 use Rattle.receiver.specs.declared.Scanned.{Scanned}
-use Rattle.receiver.specs.declared.Quiet.{Quiet}
 use Rattle.receiver.specs.declared.NoiseCount.{NoiseCount}
 use Rattle.receiver.specs.declared.NoiseCount.the-variants as counted
 use Rattle.receiver.specs.Record.{Record, held, inRange, fresh, opened, silenced, pending, itemOf, nextByte}
@@ -45,10 +44,6 @@ paperAnswer (answer.Refused r) = gave (refused (paper r))
 abbrev pub paperFed : Fed → List ℕ → List ℕ → Outcome
 paperFed f store buffer =
     record { leaves = held (f .receiver) store; result = record { said = paperAnswer (f .answer); taken = f .taken; buffer = buffer } }
-
--- a mark takes no bytes and is lent no frame buffer
-abbrev pub paperQuiet : Quiet → List ℕ → Outcome
-paperQuiet q store = record { leaves = held (q .receiver) store; result = record { said = paperAnswer (q .answer); taken = 0; buffer = [] } }
 
 -- the store of the record that is made is the first 260 bytes of the one lent
 abbrev pub paperMade : Made → List ℕ → Answered Record
@@ -107,17 +102,23 @@ scanFrom taken r (b ∷ piece) =
 abbrev pub fedBy : Scan → List ℕ → Outcome
 fedBy s buffer = cond (s .closed) (completed (s .before) (s .taken) buffer) (unfinished (s .before) (s .taken) buffer)
 
--- "A record outside its stated ranges is refusal 2, checked first"; "The lent frame buffer must have 260 bytes; if not, refusal 1"
-unfoldable pub feedOf : Record → List ℕ → List ℕ → Outcome
-feedOf r piece buffer =
-    cond (inRange r) (cond (ltb (length buffer) 260) (refusedCall 1 r buffer) (fedBy (scanFrom 0 r piece) buffer)) (refusedCall 2 r buffer)
+-- a mark that cuts off a stretch: refusal 9, and no byte is taken
+abbrev pub cutOff : Record → List ℕ → Outcome
+cutOff r buffer = record { leaves = silenced r; result = record { said = gave (refused (number 9)); taken = 0; buffer = buffer } }
 
--- "A silence mark is a call of its own: it needs no frame buffer, takes no bytes and gives 2, 9 or nothing."
-unfoldable pub silenceOf : Record → Outcome
-silenceOf r =
-    cond (inRange r)
-    (record { leaves = silenced r; result = record { said = cond (pending r) (gave (refused (number 9))) nothing; taken = 0; buffer = [] } })
-    (refusedCall 2 r [])
+-- the record after the mark, where there is one
+abbrev pub afterMark : Bool → Record → Record
+afterMark true r = silenced r
+afterMark false r = r
+
+-- 02 (ix): "With the flag set, the mark is dealt with first; if that gives refusal 9, the call takes no bytes"
+abbrev pub heard : Record → Bool → List ℕ → List ℕ → Outcome
+heard r silence piece buffer = cond (silence && pending r) (cutOff r buffer) (fedBy (scanFrom 0 (afterMark silence r) piece) buffer)
+
+-- "A record outside its stated ranges is refusal 2, checked first"; "The lent frame buffer must have 260 bytes; if not, refusal 1"
+unfoldable pub feedOf : Record → Bool → List ℕ → List ℕ → Outcome
+feedOf r silence piece buffer =
+    cond (inRange r) (cond (ltb (length buffer) 260) (refusedCall 1 r buffer) (heard r silence piece buffer)) (refusedCall 2 r buffer)
 
 -- asking for the noise count, which changes nothing
 unfoldable pub noiseOf : Record → Answered ℕ

@@ -16,7 +16,7 @@ ghost use Rattle.shdlc.specs.declared.Kind.{Kind as FrameKind};
 ghost use Rattle.shdlc.specs.Paper.{paperChecked};
 ghost use Rattle.shdlc.specs.Stuffing.{escapes, leftOf, stuffByte, isControl};
 ghost use Rattle.receiver.specs.Record.{held, numberOfMode, modeOf, outsideOf, lengthInRange, Store, limited, acted, pendingIn, placeIn, faultOf, itemIn};
-ghost use Rattle.receiver.specs.Calls.{paperFed, paperQuiet, paperMade, paperNoise, freshOf, feedOf, silenceOf, noiseOf, completed, scannedAs, scanFrom};
+ghost use Rattle.receiver.specs.Calls.{paperFed, paperMade, paperNoise, freshOf, feedOf, noiseOf, completed, scannedAs, scanFrom};
 
 // Where the receiver stands: before the first 7E or after silence; in a stretch; in one after a 7D; in one with the fault of
 // refusal 3 or 4 found.
@@ -56,12 +56,6 @@ pub enum Answer {
 pub struct Fed {
     pub receiver: Receiver,
     pub taken: usize,
-    pub answer: Answer,
-}
-
-// What a silence mark gives back.
-pub struct Quiet {
-    pub receiver: Receiver,
     pub answer: Answer,
 }
 
@@ -506,7 +500,34 @@ fn push(kind: Kind, len: usize, noise: usize, store: &mut [u8], v: u8, n: usize)
     stands(kind, PLAIN, past(len, n), noise)
 }
 
-// `scan` of a piece of one byte, without the loop: a driver that hands in each byte as it comes pays for that byte alone.
+// What one byte leaves in a stretch without a fault.
+fn scan_plain(kind: Kind, len: usize, noise: usize, store: &mut [u8], b: u8) -> Scanned
+    requires { ⌜ length (now store) ≡ 260 ⌝ }
+    ensures { λ s. ⌜ scannedAs s (now (store .exit)) ≡ scanFrom 0 (record { kind = kind; mode = Mode.Plain; len = len; noise = noise; store = now (store .entry) }) (b ∷ []) ⌝ }
+{
+    if b == 0x7E {
+        return Scanned {
+            receiver: Receiver {
+                kind,
+                mode: Mode::Plain,
+                len,
+                noise,
+            },
+            taken: 1,
+            closed: 0 < len,
+        };
+    }
+    if b == 0x7D {
+        return stands(kind, ESCAPED, len, noise);
+    }
+    if is_control(b) {
+        return stands(kind, BARE_CONTROL, len, noise);
+    }
+    push(kind, len, noise, store, b, 1)
+}
+
+// `scan` of a piece of one byte, without the loop: a driver that hands in each byte as it comes pays for that byte alone. The usual mode comes
+// first, before the byte is looked at: the compiler would make one `match` of the tests of the mode, in which it is the last.
 fn scan_one(r: Receiver, store: &mut [u8], b: u8) -> Scanned
     requires { ⌜ (length (now store) ≡ 260) × (r .noise < 4294967296) ⌝ }
     ensures { λ s. ⌜ scannedAs s (now (store .exit)) ≡ scanFrom 0 (held r (now (store .entry))) (b ∷ []) ⌝ }
@@ -516,6 +537,9 @@ fn scan_one(r: Receiver, store: &mut [u8], b: u8) -> Scanned
     let len = r.len;
     let noise = r.noise;
     let m = mode_number(mode);
+    if m == PLAIN {
+        return scan_plain(kind, len, noise, store, b);
+    }
     if b == 0x7E {
         if is_pending(m, len) {
             return Scanned {
@@ -531,15 +555,6 @@ fn scan_one(r: Receiver, store: &mut [u8], b: u8) -> Scanned
         }
         return stands(kind, PLAIN, 0, noise);
     }
-    if m == PLAIN {
-        if b == 0x7D {
-            return stands(kind, ESCAPED, len, noise);
-        }
-        if is_control(b) {
-            return stands(kind, BARE_CONTROL, len, noise);
-        }
-        return push(kind, len, noise, store, b, 1);
-    }
     if m == ESCAPED {
         if is_escaped(b) {
             return push(kind, len, noise, store, b ^ 0x20, 2);
@@ -552,9 +567,32 @@ fn scan_one(r: Receiver, store: &mut [u8], b: u8) -> Scanned
     stands(kind, m, len, noise)
 }
 
-// Takes a piece's bytes up to and including the one that completes an item, else the whole piece.
-pub fn feed(r: Receiver, store: &mut [u8], piece: &[u8], frame: &mut [u8]) -> Fed
-    ensures { λ f. ⌜ paperFed f (now (store .exit)) (now (frame .exit)) ≡ feedOf (held r (now (store .entry))) (now (piece .entry)) (now (frame .entry)) ⌝ }
+// Whether silence cuts off a stretch.
+fn is_cut(silence: bool, m: u8, len: usize) -> bool
+    ensures { λ r. ⌜ r ≡ (silence && pendingIn (modeOf m) len) ⌝ }
+{
+    if silence {
+        return is_pending(m, len);
+    }
+    false
+}
+
+// The record after silence, where there was any.
+fn after_mark(silence: bool, r: Receiver) -> Receiver
+    ensures { λ s. ⌜ s ≡ cond silence (outsideOf (r .kind) (r .noise)) r ⌝ }
+{
+    let kind = r.kind;
+    let noise = r.noise;
+    if silence {
+        return outside(kind, noise);
+    }
+    r
+}
+
+// Takes a piece's bytes up to and including the one that completes an item, else the whole piece. Silence before the piece is dealt with
+// first: it ends what was begun, and bytes are noise until the next 7E. Where it cuts off a stretch, no byte of the piece is taken.
+pub fn feed(r: Receiver, store: &mut [u8], silence: bool, piece: &[u8], frame: &mut [u8]) -> Fed
+    ensures { λ f. ⌜ paperFed f (now (store .exit)) (now (frame .exit)) ≡ feedOf (held r (now (store .entry))) silence (now (piece .entry)) (now (frame .entry)) ⌝ }
 {
     let mode = r.mode;
     let len = r.len;
@@ -573,8 +611,16 @@ pub fn feed(r: Receiver, store: &mut [u8], piece: &[u8], frame: &mut [u8]) -> Fe
             answer: Answer::Refused(Refusal::NoRoom),
         };
     }
+    let from = after_mark(silence, r);
+    if is_cut(silence, mode_number(mode), len) {
+        return Fed {
+            receiver: from,
+            taken: 0,
+            answer: Answer::Refused(Refusal::CutBySilence),
+        };
+    }
     if piece.len() == 1 {
-        let o = scan_one(r, store, piece[0]);
+        let o = scan_one(from, store, piece[0]);
         let next = o.receiver;
         if o.closed {
             return complete(next, 1, store, frame);
@@ -585,7 +631,7 @@ pub fn feed(r: Receiver, store: &mut [u8], piece: &[u8], frame: &mut [u8]) -> Fe
             answer: Answer::Nothing,
         };
     }
-    let s = scan(r, store, piece);
+    let s = scan(from, store, piece);
     let at = s.receiver;
     let taken = s.taken;
     if s.closed {
@@ -594,33 +640,6 @@ pub fn feed(r: Receiver, store: &mut [u8], piece: &[u8], frame: &mut [u8]) -> Fe
     Fed {
         receiver: at,
         taken,
-        answer: Answer::Nothing,
-    }
-}
-
-// A silence mark: it ends what was begun, and bytes are noise until the next 7E.
-pub fn silence(r: Receiver, store: &[u8]) -> Quiet
-    ensures { λ q. ⌜ paperQuiet q (now (store .entry)) ≡ silenceOf (held r (now (store .entry))) ⌝ }
-{
-    let kind = r.kind;
-    let mode = r.mode;
-    let len = r.len;
-    let noise = r.noise;
-    if !in_range(mode, len, noise, store.len()) {
-        return Quiet {
-            receiver: r,
-            answer: Answer::Refused(Refusal::BadRecord),
-        };
-    }
-    let after = outside(kind, noise);
-    if is_pending(mode_number(mode), len) {
-        return Quiet {
-            receiver: after,
-            answer: Answer::Refused(Refusal::CutBySilence),
-        };
-    }
-    Quiet {
-        receiver: after,
         answer: Answer::Nothing,
     }
 }

@@ -17,7 +17,6 @@ use receiver::Fed;
 use receiver::Made;
 use receiver::Mode;
 use receiver::NoiseCount;
-use receiver::Quiet;
 use receiver::Receiver;
 use replies::ReadReply;
 use replies::Reply;
@@ -26,11 +25,19 @@ use sfc6::Request;
 use shdlc::Kind;
 use shdlc::Written;
 ghost use Prim.Native.Nat.{_≤_};
+ghost use lib.ListN.{length};
 
-// A receiver, and whether it has given an item.
+// A receiver, whether silence came that it was not told of yet, and whether it has given an item.
 struct Seen {
     receiver: Receiver,
+    silence: bool,
     any: bool,
+}
+
+// What a call left, and the bytes that it took.
+struct Taken {
+    seen: Seen,
+    taken: usize,
 }
 
 pub(crate) fn checksum(line: &[u8]) {
@@ -72,28 +79,46 @@ fn item(answer: Answer, frame: &[u8]) -> bool {
     }
 }
 
-// Feeds a piece until it is used up.
-fn feed(from: Seen, store: &mut [u8], piece: &[u8], frame: &mut [u8]) -> Seen {
-    let mut r = from.receiver;
+// One call, which carries the silence. A fresh record and 260 bytes of room are never refused, so it is dealt with.
+fn call(from: Seen, store: &mut [u8], piece: &[u8], frame: &mut [u8]) -> Taken
+    ensures { λ t. ⌜ t .taken ≤ length (now (piece .entry)) ⌝ }
+{
+    let r = from.receiver;
     let mut any = from.any;
-    let mut place: usize = 0;
+    mark(frame);
+    let fed = receiver::feed(r, store, from.silence, piece, frame);
+    let next = fed.receiver;
+    let taken = fed.taken;
+    let answer = fed.answer;
+    if item(answer, frame) {
+        any = true;
+    }
+    Taken {
+        seen: Seen {
+            receiver: next,
+            silence: false,
+            any,
+        },
+        taken,
+    }
+}
+
+// Feeds a piece until it is used up; an empty one too may carry the silence.
+fn feed(from: Seen, store: &mut [u8], piece: &[u8], frame: &mut [u8]) -> Seen {
+    let first = call(from, store, piece, frame);
+    let mut seen = first.seen;
+    let mut place = first.taken;
     while place < piece.len() {
-        mark(frame);
-        let fed = receiver::feed(r, store, &piece[place..], frame);
-        let next = fed.receiver;
-        let taken = fed.taken;
-        let answer = fed.answer;
-        r = next;
-        if item(answer, frame) {
-            any = true;
-        }
-        // A fresh record and 260 bytes of room are never refused, so a call takes a byte.
+        let more = call(seen, store, &piece[place..], frame);
+        let taken = more.taken;
+        seen = more.seen;
+        // Without silence a call that is not refused takes a byte.
         if taken == 0 {
-            return Seen { receiver: r, any };
+            return seen;
         }
         place += taken;
     }
-    Seen { receiver: r, any }
+    seen
 }
 
 // Feeds the bytes that a word stands for, in pieces of one or two.
@@ -112,28 +137,26 @@ fn feed_pattern(from: Seen, store: &mut [u8], p: Repeat, frame: &mut [u8]) -> Se
     seen
 }
 
-fn feed_mark(from: Seen, store: &[u8], frame: &mut [u8]) -> Seen {
-    let r = from.receiver;
-    mark(frame);
-    let quiet = receiver::silence(r, store);
-    let next = quiet.receiver;
-    let answer = quiet.answer;
-    let mut any = from.any;
-    if item(answer, frame) {
-        any = true;
+// Feeds what a word stands for: bytes, or a silence mark, which goes with the bytes of the next word.
+fn feed_word(from: Seen, store: &mut [u8], w: &[u8], frame: &mut [u8]) -> Seen {
+    if !same(w, b"M") {
+        return feed_pattern(from, store, pattern(w), frame);
     }
+    let told = settled(from, store, frame);
+    let receiver = told.receiver;
     Seen {
-        receiver: next,
-        any,
+        receiver,
+        silence: true,
+        any: told.any,
     }
 }
 
-// Feeds what a word stands for: bytes, or a silence mark.
-fn feed_word(from: Seen, store: &mut [u8], w: &[u8], frame: &mut [u8]) -> Seen {
-    if same(w, b"M") {
-        return feed_mark(from, store, frame);
+// Tells of silence that no bytes came after.
+fn settled(from: Seen, store: &mut [u8], frame: &mut [u8]) -> Seen {
+    if from.silence {
+        return feed(from, store, b"", frame);
     }
-    feed_pattern(from, store, pattern(w), frame)
+    from
 }
 
 fn kind_of(w: &[u8]) -> Kind {
@@ -176,9 +199,11 @@ fn heard(from: Receiver, store: &mut [u8], line: &[u8]) {
     let mut frame = [MARK; 260];
     let start = Seen {
         receiver: from,
+        silence: false,
         any: false,
     };
-    let seen = feed_words(start, store, line, &mut frame);
+    let fed = feed_words(start, store, line, &mut frame);
+    let seen = settled(fed, store, &mut frame);
     if !seen.any {
         show::text(b" nothing");
     }
@@ -228,17 +253,20 @@ fn feed_in(
     record: Receiver,
     store: &mut [u8],
     stored: usize,
+    silence: bool,
     piece: &[u8],
     frame: &mut [u8],
     framed: usize,
 ) -> Fed {
     let first = room_of(stored, store.len());
     let second = room_of(framed, frame.len());
-    receiver::feed(record, &mut store[..first], piece, &mut frame[..second])
-}
-
-fn silence_in(record: Receiver, store: &[u8], stored: usize) -> Quiet {
-    receiver::silence(record, part(store, 0, stored))
+    receiver::feed(
+        record,
+        &mut store[..first],
+        silence,
+        piece,
+        &mut frame[..second],
+    )
 }
 
 // One call with a record, and with so much of a store and a frame buffer.
@@ -254,15 +282,22 @@ pub(crate) fn lent(line: &[u8]) {
     };
     let stored = number(word(line, 2)) as usize;
     let framed = number(word(line, 3)) as usize;
-    if same(word(line, 4), b"M") {
-        let quiet = silence_in(record, &store, stored);
-        let answer = quiet.answer;
-        took(0, answer, &frame);
-        return;
+    let silence = same(word(line, 4), b"M");
+    let mut bytes: usize = 4;
+    if silence {
+        bytes = 5;
     }
-    let n = bytes_from(line, 4, &mut room);
+    let n = bytes_from(line, bytes, &mut room);
     let piece = part(&room, 0, n);
-    let fed = feed_in(record, &mut store, stored, piece, &mut frame, framed);
+    let fed = feed_in(
+        record,
+        &mut store,
+        stored,
+        silence,
+        piece,
+        &mut frame,
+        framed,
+    );
     let answer = fed.answer;
     took(fed.taken, answer, &frame);
 }
@@ -273,7 +308,7 @@ fn first_item(kind: Kind, wire: &[u8], frame: &mut [u8]) -> Answer {
     let Made::Fresh(fresh) = receiver::fresh(kind, &mut store) else {
         return Answer::Nothing;
     };
-    let fed = receiver::feed(fresh, &mut store, wire, frame);
+    let fed = receiver::feed(fresh, &mut store, false, wire, frame);
     let answer = fed.answer;
     stays(frame, body_size(answer));
     if fed.taken != wire.len() {

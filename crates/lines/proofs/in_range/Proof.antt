@@ -1,6 +1,6 @@
--- `lines::in_range` meets its contract: each arm by what the mark would say. Assumes nothing.
+-- `lines::in_range` meets its contract: each arm by what `receiver::noise` says. Assumes nothing.
 use borrow.Author.Needs.{needs}
-use Rattle.lines.proofs.Lines.{quiet-nothing, quiet-frame, quiet-refused}
+use Rattle.lines.proofs.Lines.{in-range-told, in-range-refused}
 use Rattle.lines.proofs.in_range.Statement.{statement}
 use Rattle.lines.proofs.in_range.Tie as tie
 
@@ -11,8 +11,5 @@ in-range-spec =
     (λ c κs. search needs)
     (λ c. search needs)
     (λ c. search needs)
-    (λ c. search needs)
-    (λ c κs. search needs)
-    (λ c. quiet-nothing _ _ _ (c .before .before .silence .ensures) (c .enum-told .given .1))
-    (λ c. quiet-frame _ _ _ (c .before .before .silence .ensures) (c .enum-told2 .given .1))
-    (λ c. quiet-refused _ _ _ (c .before .before .before .before .silence .ensures) (c .before .before .answer .given .1) (c .number .ensures)))
+    (λ c. in-range-told _ (c .before .before .noise .ensures) (c .enum-told .given .1))
+    (λ c. in-range-refused _ (c .before .before .noise .ensures) (c .enum-told2 .given .1)))

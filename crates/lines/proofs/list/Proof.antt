@@ -29,7 +29,7 @@ taken-in c =
     let l = c .before .before .before .before .before .before .loop in
     let s = c .before .before .before .before .before .before .before .before .before .before .args .piece .now in
     let t : c .feed .result .taken ≤ length (take (length s - l .taken) (drop (l .taken) s)) =
-    taken-within (c .feed .result) _ _ _ _ _ (c .feed .ensures) in
+    taken-within (c .feed .result) _ _ _ _ _ _ (c .feed .ensures) in
     omega (arith, length-take (length s - l .taken) (drop (l .taken) s), length-drop (l .taken) s)
 
 -- a turn, once its line is laid
@@ -83,7 +83,7 @@ list-spec =
       t .place,
       fed p .feed .kept .1 .0 ∙ l .inv .2,
       p .put-answer .kept .1 .1 .0 ∙ l .inv .3,
-      fed p .feed .kept .1 .1 .1 .0 ∙ l .inv .4,
+      fed p .feed .kept .1 .1 .1 .1 .0 ∙ l .inv .4,
       (λ h. t .range h (sized p)),
       t .same ∙ l .inv .6,
     ))

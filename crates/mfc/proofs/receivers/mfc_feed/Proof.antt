@@ -27,7 +27,7 @@ mfc-feed-spec =
     (λ c. search needs)
     (λ c κs. search needs)
     (λ c. search needs)
-    (λ c. feed-bad _ (c .before .before .before .load .ensures) _ _ (c .before .enum-told .given .1) (c .of-answer .ensures))
+    (λ c. feed-bad _ (c .before .before .before .load .ensures) _ _ _ (c .before .enum-told .given .1) (c .of-answer .ensures))
     (λ c. search needs)
     (λ c. search needs)
     (λ c. long c)
@@ -46,5 +46,5 @@ mfc-feed-spec =
     let w = p .before .before in
     let f = w .before .before .before .before .before .before in
     let t = f .before .before .before in
-    feed-held _ (t .before .before .before .load .ensures) _ _ (f .feed .result) (byte t) (long t) (t .before .r .given .1) (f .feed .kept .1 .0)
+    feed-held _ (t .before .before .before .load .ensures) _ _ _ (f .feed .result) (byte t) (long t) (t .before .r .given .1) (f .feed .kept .1 .0)
     (f .feed .ensures) (p .put-after .ensures) (w .of-answer2 .ensures)))
