@@ -54,6 +54,29 @@ open-in-range node Calibration lease h = on-bus (node .bus) (node .address) h
     on-bus Serial address g = rw g
     on-bus I2c address g = g
 
+-- an order leaves such a table as such a one
+sound-done : (t : List Entry) (order : Order) → Sound t → orderInRange order ≡ true → Sound (done order t .1)
+unfolding opened
+sound-done t (Open node kind lease) s ok = go (holds (isOf node kind) t) refl (holds isFree t) refl
+  where
+    go : (b : Bool) → holds (isOf node kind) t ≡ b → (c : Bool) → holds isFree t ≡ c
+        → Sound (cond {A = Outcome} b (served tt, set t (placeOf (isOf node kind) t) (entryOf node kind lease)) (cond c (served tt, set t (placeOf isFree t) (entryOf node kind lease)) (refused (number 19), t)) .1)
+    go true u c w = (length-set t (placeOf (isOf node kind) t) _ ∙ s .0, valid-renewed _ (open-in-range node kind lease (and-left (nodeInRange node) _ ok)) t u (s .1))
+    go false u true w = (length-set t (placeOf isFree t) _ ∙ s .0, valid-placed _ (open-in-range node kind lease (and-left (nodeInRange node) _ ok)) t u w (s .1))
+    go false u false w = s
+sound-done t (Close node kind) s ok = (length-map t (freed (isOf node kind)) ∙ s .0, valid-freed (isOf node kind) t (s .1))
+sound-done t (Restart node) s ok = (length-map t (freed (onNode node)) ∙ s .0, valid-freed (onNode node) t (s .1))
+sound-done t Poll s ok = (length-map t tick ∙ s .0, valid-polled t (s .1))
+sound-done t Unnamed s ok = s
+sound-done t Nothing s ok = s
+
+pub sound-kept : (t : List Entry) (order : Order) → Sound t → Sound (change t order .1)
+sound-kept t order s = subst (λ (o : Outcome). Sound (o .1)) (sym (sound-change t order s)) (go (orderInRange order) refl)
+  where
+    go : (b : Bool) → orderInRange order ≡ b → Sound (cond b (done order t) (refused (number 12), t) .1)
+    go true u = sound-done t order s u
+    go false u = s
+
 -- ---- a table, and the orders that left it
 abbrev Left : List Entry → List Order → Type 0
 Left t carried = Sound t × Tells t carried
@@ -169,9 +192,13 @@ each [] t carried is = refl
 each (order ∷ orders) t carried is =
     λ i. step t carried is order .0 i ∷ each orders (change t order .1) (joined (answerTo carried order) order carried) (step t carried is order .1) i
 
+pub sound-empty : Sound empty
+unfolding valid entryInRange isClear again holds has
+sound-empty = (refl, refl)
+
 at-start : Left empty []
 unfolding valid entryInRange isClear again found holds has left
-at-start = ((refl, refl), λ node kind. start (node .bus) (node .address) kind)
+at-start = (sound-empty, λ node kind. start (node .bus) (node .address) kind)
   where
     start : (bus : Bus) (address : ℕ) (kind : Kind) → found (isOf (record { bus = bus; address = address }) kind) empty ≡ none
     start bus address Valve = refl

@@ -15,6 +15,7 @@ use crate::survey::is_valid;
 use refusal::Refusal;
 ghost use mathlib.Core.Path.{_≡_};
 ghost use mathlib.Core.Bool.{true, _&&_};
+ghost use mathlib.Core.List.{map};
 ghost use Prim.Native.Nat.{_≤_};
 ghost use lib.ListN.{take};
 ghost use Rattle.board.specs.Entries.{nodeInRange, entryOf, has};
@@ -76,7 +77,8 @@ fn node_in_range(node: Node) -> bool
     }
 }
 
-fn lease_in_range(lease: u32) -> bool
+// Whether a number of polls can be a lease.
+pub fn lease_in_range(lease: u32) -> bool
     ensures { λ r. ⌜ r ≡ leaseInRange lease ⌝ }
 {
     if lease < 1 {
@@ -314,6 +316,13 @@ fn poll_in(p: Places, n: usize) -> Places
         i += 1;
     }
     q
+}
+
+// One poll of a board by value.
+pub fn poll(p: Places) -> Places
+    ensures { λ r. ⌜ r .rows ≡ map tick (p .rows) ⌝ }
+{
+    poll_in(p, 32)
 }
 
 fn each_in(p: Places, from: usize, to: usize, s: Step) -> Places

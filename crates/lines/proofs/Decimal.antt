@@ -44,15 +44,32 @@ digits-of (suc k) n h = go (ltb n 10) refl (digits-of k (n / 10) (omega arith))
     go true e fewer = rw (decimal-digit n (ltb-true _ _ e)) (omega arith)
     go false e fewer = rw (decimal-more n (ltb-false _ _ e), length-append) (omega arith)
 
--- a byte has three digits at most, a u16 five, a u32 ten
+-- a number below 100 has two digits at most, a byte three, a u16 five, a u32 ten
+pub decimal-two : (n : ℕ) → n < 100 → length (decimal n) ≤ 2
+unfolding tens
+decimal-two n h = digits-of 1 n (omega arith)
+
+pub decimal-byte : (n : ℕ) → n < 256 → length (decimal n) ≤ 3
+unfolding tens
+decimal-byte n h = digits-of 2 n (omega arith)
+
+pub decimal-u16 : (n : ℕ) → n < 65536 → length (decimal n) ≤ 5
+unfolding tens
+decimal-u16 n h = digits-of 4 n (omega arith)
+
+pub decimal-u32 : (n : ℕ) → n < 2 ^ 32 → length (decimal n) ≤ 10
+unfolding tens
+decimal-u32 n h = digits-of 9 n (omega arith)
+
+-- and with the byte after it one more
 pub field-byte : (n after : ℕ) → n < 256 → length (field n after) ≤ 4
-unfolding field tens
-field-byte n after h = rw length-append (omega (arith, digits-of 2 n (omega arith)))
+unfolding field
+field-byte n after h = rw length-append (omega (arith, decimal-byte n h))
 
 pub field-u16 : (n after : ℕ) → n < 65536 → length (field n after) ≤ 6
-unfolding field tens
-field-u16 n after h = rw length-append (omega (arith, digits-of 4 n (omega arith)))
+unfolding field
+field-u16 n after h = rw length-append (omega (arith, decimal-u16 n h))
 
 pub field-u32 : (n after : ℕ) → n < 2 ^ 32 → length (field n after) ≤ 11
-unfolding field tens
-field-u32 n after h = rw length-append (omega (arith, digits-of 9 n (omega arith)))
+unfolding field
+field-u32 n after h = rw length-append (omega (arith, decimal-u32 n h))

@@ -35,6 +35,23 @@ fn put_decimal(out: &mut [u8], place: usize, n: u32) -> usize
     last + 1
 }
 
+// A number in decimal: so many of the first bytes.
+pub struct Numeral {
+    pub bytes: [u8; 10],
+    pub count: usize,
+}
+
+pub fn digits(n: u32) -> Numeral
+    ensures { λ r. ⌜ (take (r .count) (r .bytes) ≡ decimal n) × (r .count ≡ length (decimal n)) × (r .count ≤ length (r .bytes)) ⌝ }
+{
+    let mut bytes = [0u8; 10];
+    let count = put_decimal(&mut bytes, 0, n);
+    Numeral {
+        bytes: bytes,
+        count: count,
+    }
+}
+
 // Writes bytes from a place on, and answers the place after them.
 fn put_bytes(out: &mut [u8], place: usize, bytes: &[u8]) -> usize
     requires { ⌜ place + length (now bytes) ≤ length (now out) ⌝ }

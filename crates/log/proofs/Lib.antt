@@ -8,6 +8,7 @@ pub mod Cases
 pub mod Adding
 pub mod Faults
 pub mod Turns
+pub mod Halves
 pub mod Rows
 pub mod Parts
 pub mod Lines

@@ -55,6 +55,25 @@ module _ (rule : Rule) (file : List ℕ) where
   pub back-stopped : (left place : ℕ) {n : Numbered} → refused n ≡ foundIn file place (endingAt rule file place) → before place ≡ drop left (before place)
   back-stopped left place h = rw (stopped place h) (sym (drop-none left))
 
+  -- what is found at a place ends there: the size that it says, and so where it starts
+  said-size : (place : ℕ) → place ≤ length file → {kind start size : ℕ} → served (rowed kind start size) ≡ foundIn file place (endingAt rule file place)
+      → size ≡ sizeAt file place
+  unfolding recordAt startAt
+  said-size place inside e =
+      let f = found-served rule file place e in
+      let s = served-ends rule file place (f .0) (f .1) in
+      let sized : length (recordAt file place .body) ≡ sizeAt file place =
+      length-take-le (sizeAt file place) (drop (startAt file place) file) (simp length-drop (omega (arith, s .0 .long, s .0 .points))) in
+      f .4 ∙ ap (λ (r : LogRecord). length (r .body)) (sym (s .1)) ∙ sized
+
+  pub found-ends : (place : ℕ) → place ≤ length file → {kind start size : ℕ} → served (rowed kind start size) ≡ foundIn file place (endingAt rule file place)
+      → start + (size + 3) ≡ place
+  unfolding startAt
+  found-ends place inside e =
+      let f = found-served rule file place e in
+      let s = served-ends rule file place (f .0) (f .1) in
+      omega (arith, f .2, said-size place inside e, s .0 .long, s .0 .points)
+
   -- what is found where records are shown is the newest of them
   pub record Turn (place kind start size : ℕ) : Type 0 where
     pub newest : before place ≡ recorded kind (take size (drop start file)) ∷ before start
@@ -76,13 +95,11 @@ module _ (rule : Rule) (file : List ℕ) where
     turn place inside some {kind} {start} {size} e =
         let f = found-served rule file place e in
         let s = served-ends rule file place (f .0) (f .1) in
-        let sized : length (recordAt file place .body) ≡ sizeAt file place =
-        length-take-le (sizeAt file place) (drop (startAt file place) file) (simp length-drop (omega (arith, s .0 .long, s .0 .points))) in
-        let is : size ≡ sizeAt file place = f .4 ∙ ap (λ (r : LogRecord). length (r .body)) (sym (s .1)) ∙ sized in
+        let is : size ≡ sizeAt file place = said-size place inside e in
         let r : f .0 ≡ recorded kind (take size (drop start file)) = sym (s .1) ∙ rw (f .2, is, f .3, ← (s .1)) in
         let here : recordsBefore rule file place ≡ newestOf (served (f .0)) (recordsBefore rule file (startAt file place)) =
         records-before rule file place (omega (arith, s .0 .long)) ∙ ap (λ (a : Answered LogRecord). newestOf a (recordsBefore rule file (startAt file place))) (f .1) in
-        go (f .0) r (recordsBefore rule file start) refl (here ∙ ap (λ (x : ℕ). newestOf (served (f .0)) (recordsBefore rule file x)) (sym (f .2))) (omega (arith, f .2, is, s .0 .long, s .0 .points))
+        go (f .0) r (recordsBefore rule file start) refl (here ∙ ap (λ (x : ℕ). newestOf (served (f .0)) (recordsBefore rule file x)) (sym (f .2))) (found-ends place inside e)
       where
         go : (r : LogRecord) → r ≡ recorded kind (take size (drop start file)) → (older : Answered (List LogRecord)) → recordsBefore rule file start ≡ older
             → recordsBefore rule file place ≡ newestOf (served r) older → start + (size + 3) ≡ place → Turn place kind start size

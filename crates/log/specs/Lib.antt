@@ -7,3 +7,4 @@ pub mod Text
 pub mod Paper
 pub mod Logs
 pub mod Private
+pub mod Oldest

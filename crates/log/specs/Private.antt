@@ -1,4 +1,4 @@
--- Contracts of private functions: nothing that a reader has to believe.
+-- Contracts of functions that only the library calls: nothing that a reader has to believe.
 use Prim.Native.Nat.{ℕ, _+_}
 use mathlib.Core.Bool.{cond, not}
 use mathlib.Core.List.{List, [], _++_}

@@ -2,6 +2,7 @@
 use refusal::Refusal;
 
 pub mod listing;
+pub mod oldest;
 pub mod reader;
 pub mod text;
 pub mod writer;

@@ -17,7 +17,7 @@ ghost use Rattle.log.specs.Paper.{paperAnswer};
 ghost use Rattle.log.specs.Private.{shown};
 
 // The place where the older records end when so many of those that end at a place are left out.
-fn back(file: &[u8], end: usize, skip: usize) -> usize
+pub(crate) fn back(file: &[u8], end: usize, skip: usize) -> usize
     requires { ⌜ end ≤ length (now file) ⌝ }
     ensures { λ r. ⌜ (r ≤ end) × (shown (recordsBefore kinds (now (file .entry)) r) ≡ drop skip (shown (recordsBefore kinds (now (file .entry)) end))) ⌝ }
 {

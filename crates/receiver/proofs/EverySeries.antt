@@ -25,7 +25,7 @@ use Rattle.receiver.proofs.Cases.{feed-room, feed-heard}
 use Rattle.receiver.proofs.NoiseOfStream.{noise-stream}
 use Rattle.receiver.proofs.Simulation.{At, at-next, at-gain, at-range, at-fresh}
 
-abbrev placeOf : List Event → Place
+abbrev pub placeOf : List Event → Place
 placeOf stream = placeFrom outside stream
 
 pub record-append : (es fs : List Event) (r : Record) → recordFrom r (es ++ fs) ≡ recordFrom (recordFrom r es) fs
@@ -42,7 +42,7 @@ at-stream : (kind : Kind) (stream : List Event) → At kind (placeOf stream) (re
 at-stream kind stream = at-record kind stream outside (fresh kind) (at-fresh kind)
 
 -- what a stream gains is what comes at its place
-gained-at : (kind : Kind) (stream more : List Event) → gained kind stream more ≡ itemsFrom kind (placeOf stream) more
+pub gained-at : (kind : Kind) (stream more : List Event) → gained kind stream more ≡ itemsFrom kind (placeOf stream) more
 unfolding gained items
 gained-at kind stream more = rw items-append (drop-append-seam (itemsFrom kind outside stream) (itemsFrom kind (placeOf stream) more))
 
@@ -244,11 +244,11 @@ none-2 [] h = tt
 none-2 (r ∷ rs) h = (sayable-not-2 (r .said) (h .0), none-2 rs (h .1))
 
 -- what a call gives is what its stream says
-record Meets (kind : Kind) (stream : List Event) (r : Record) (call : Call) : Type 0 where
-  gives : outcome r call .result ≡ expected kind stream call
-  leaves : outcome r call .leaves ≡ recordFrom r (added kind stream call)
-  reports : reported (expected kind stream call .said) (expected kind stream call .buffer) ≡ gained kind stream (added kind stream call)
-  says : Sayable (expected kind stream call .said)
+pub record Meets (kind : Kind) (stream : List Event) (r : Record) (call : Call) : Type 0 where
+  pub gives : outcome r call .result ≡ expected kind stream call
+  pub leaves : outcome r call .leaves ≡ recordFrom r (added kind stream call)
+  pub reports : reported (expected kind stream call .said) (expected kind stream call .buffer) ≡ gained kind stream (added kind stream call)
+  pub says : Sayable (expected kind stream call .said)
 
 -- the outcome of a scan
 one-shown : (t : Bool) (r : Record) → One (cond t (itemOf r ∷ []) [])
@@ -386,11 +386,11 @@ module _ (kind : Kind) (stream : List Event) (r : Record) (h : At kind (placeOf 
       go false e = meets-large (ltb-false _ _ e)
 
 -- a call with the record that a stream leaves
-meets-stream : (kind : Kind) (stream : List Event) (r : Record) → r ≡ recordOf kind stream → (call : Call) → Meets kind stream r call
+pub meets-stream : (kind : Kind) (stream : List Event) (r : Record) → r ≡ recordOf kind stream → (call : Call) → Meets kind stream r call
 meets-stream kind stream r e call = meets kind stream r (subst (At kind (placeOf stream)) (sym e) (at-stream kind stream)) call
 
 -- the record afterwards is the one that the longer stream leaves
-leaves-stream : (kind : Kind) (stream : List Event) (r : Record) (e : r ≡ recordOf kind stream) (call : Call)
+pub leaves-stream : (kind : Kind) (stream : List Event) (r : Record) (e : r ≡ recordOf kind stream) (call : Call)
     → outcome r call .leaves ≡ recordOf kind (stream ++ added kind stream call)
 leaves-stream kind stream r e call =
     meets-stream kind stream r e call .leaves
@@ -439,7 +439,7 @@ end : (kind : Kind) (calls : List Call) → recordAfter (fresh kind) calls ≡ r
 end kind calls = from-fresh kind calls .leaves
 
 -- what a call that is not refused adds is what it reports as taken, and the rest of its piece is left
-giving-taken : (g : List Item) (n : ℕ) (buffer : List ℕ) → giving g n buffer .taken ≡ n
+pub giving-taken : (g : List Item) (n : ℕ) (buffer : List ℕ) → giving g n buffer .taken ≡ n
 giving-taken [] n buffer = refl
 giving-taken (i ∷ l) n buffer = refl
 
@@ -448,7 +448,7 @@ giving-kept [] n buffer h = refl
 giving-kept (served body ∷ l) n buffer h = refl
 giving-kept (refused k ∷ l) n buffer h = refuses-none k (h .0)
 
-bytes-front : (kind : Kind) (stream : List Event) (silence : Bool) (piece : List ℕ)
+pub bytes-front : (kind : Kind) (stream : List Event) (silence : Bool) (piece : List ℕ)
     → take (length (bytesAdded kind stream silence piece)) piece ≡ bytesAdded kind stream silence piece
 unfolding bytesAdded
 bytes-front kind stream true piece = go (gains kind stream (mark ∷ []))
@@ -565,7 +565,7 @@ refused-all r call n h = go (inRange r) (ltb (length (call .buffer)) 260) (call 
     go true false false false e = absurd (nothing-said (number n) e)
 
 -- a call that is not refused leaves less than it hands in
-length-bytes : (l : List ℕ) → length (map byte l) ≡ length l
+pub length-bytes : (l : List ℕ) → length (map byte l) ≡ length l
 length-bytes [] = refl
 length-bytes (b ∷ l) = ap suc (length-bytes l)
 
@@ -579,7 +579,7 @@ fewer kind stream false piece h =
     let b = upTo kind stream piece in
     omega (arith, length-bytes (drop (length b) piece), length-bytes piece, length-drop (length b) piece, up-to-some kind piece stream (omega (arith, length-bytes piece)))
 
-leaves-less : (kind : Kind) (stream : List Event) (r : Record) → r ≡ recordOf kind stream → (call : Call) → 1 ≤ length (handed call)
+pub leaves-less : (kind : Kind) (stream : List Event) (r : Record) → r ≡ recordOf kind stream → (call : Call) → 1 ≤ length (handed call)
     → 260 ≤ length (call .buffer) → length (leftBy call (outcome r call .result)) < length (handed call)
 leaves-less kind stream r e call h l = rw (left-large kind stream r e call l) (fewer kind stream (call .silence) (call .piece) h)
 

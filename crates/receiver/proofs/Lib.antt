@@ -10,3 +10,4 @@ pub mod NoiseOfStream
 pub mod EverySeries
 pub mod Reached
 pub mod OneToOne
+pub mod Callers

@@ -1,0 +1,189 @@
+// The run: the records of a log, oldest first, through a request receiver and a reply receiver.
+use crate::desk::Desk;
+use crate::desk::note_poll;
+use crate::desk::note_reply;
+use crate::desk::note_request;
+use receiver::Answer;
+use receiver::Receiver;
+use shdlc::Kind;
+ghost use mathlib.Core.Path.{_≡_};
+ghost use mathlib.Core.Bool.{true};
+ghost use mathlib.Core.List.{[], _∷_, map};
+ghost use Prim.Native.Nat.{_≤_};
+ghost use lib.ListN.{length};
+ghost use Rattle.shdlc.specs.Stream.{byte};
+ghost use Rattle.receiver.specs.Record.{held, inRange};
+ghost use Rattle.receiver.specs.Calls.{paperAnswer};
+ghost use Rattle.log.specs.Log.{recorded, kinds};
+ghost use Rattle.log.specs.Oldest.{recordsTo};
+ghost use Rattle.replay.specs.Private.{notedAnswer, keptAs, frameLength, GoesOn, RunsOn, Ready, Marks, newestOf};
+
+// What a receiver answers is noted, a frame by its bytes at the buffer's start.
+fn note_answer(lease: u32, side: Kind, d: Desk, answer: Answer, frame: &[u8]) -> Desk
+    requires { ⌜ frameLength answer ≤ length (now frame) ⌝ }
+    ensures { λ r. ⌜ keptAs r ≡ notedAnswer lease side (keptAs d) (paperAnswer answer) (now (frame .entry)) ⌝ }
+{
+    match answer {
+        Answer::Nothing => d,
+        Answer::Refused(_) => d,
+        Answer::Frame(n) => {
+            let body = &frame[..n];
+            match side {
+                Kind::Request => note_request(d, body),
+                Kind::Reply => note_reply(d, body, lease),
+            }
+        }
+    }
+}
+
+// A side of the line: its receiver, whose store is lent beside it, and what is kept.
+pub struct Line {
+    pub receiver: Receiver,
+    pub desk: Desk,
+}
+
+// Feeds a piece to a side's receiver until it is used up, and notes each item.
+fn replay_piece(
+    lease: u32,
+    side: Kind,
+    from: Receiver,
+    store: &mut [u8],
+    piece: &[u8],
+    frame: &mut [u8],
+    desk: Desk,
+) -> Line
+    requires { ⌜ (inRange (held from (now store)) ≡ true) × (260 ≤ length (now frame)) ⌝ }
+    ensures { λ l. ⌜ GoesOn lease side (held from (now (store .entry))) (keptAs desk) (map byte (now (piece .entry))) (held (l .receiver) (now (store .exit))) (keptAs (l .desk)) × (inRange (held (l .receiver) (now (store .exit))) ≡ true) ⌝ }
+{
+    let mut r = from;
+    let mut d = desk;
+    let mut at: usize = 0;
+    while at < piece.len() {
+        let fed = receiver::feed(r, store, false, &piece[at..], frame);
+        let next = fed.receiver;
+        let taken = fed.taken;
+        let answer = fed.answer;
+        r = next;
+        d = note_answer(lease, side, d, answer, frame);
+        at += taken;
+    }
+    Line {
+        receiver: r,
+        desk: d,
+    }
+}
+
+// A silence mark to a side's receiver: what it cuts off is no frame, so that nothing is noted.
+fn replay_mark(from: Receiver, store: &mut [u8], none: &[u8], frame: &mut [u8]) -> Receiver
+    requires { ⌜ (inRange (held from (now store)) ≡ true) × (260 ≤ length (now frame)) × (length (now none) ≡ 0) ⌝ }
+    ensures { λ r. ⌜ Marks (held from (now (store .entry))) (held r (now (store .exit))) × (inRange (held r (now (store .exit))) ≡ true) ⌝ }
+{
+    let fed = receiver::feed(from, store, true, none, frame);
+    fed.receiver
+}
+
+// Where the replay stands: the records of the two receivers, whose stores are lent beside it, and what is kept.
+pub struct Run {
+    pub requests: Receiver,
+    pub replies: Receiver,
+    pub desk: Desk,
+}
+
+// One record of the log.
+fn replay_record(
+    lease: u32,
+    run: Run,
+    kind: u8,
+    body: &[u8],
+    asked: &mut [u8],
+    answered: &mut [u8],
+    frame: &mut [u8],
+) -> Run
+    requires { ⌜ Ready (held (run .requests) (now asked)) (held (run .replies) (now answered)) (now frame) ⌝ }
+    ensures { λ r. ⌜ RunsOn lease (held (run .requests) (now (asked .entry))) (held (run .replies) (now (answered .entry))) (keptAs (run .desk)) (recorded kind (now (body .entry)) ∷ []) (held (r .requests) (now (asked .exit))) (held (r .replies) (now (answered .exit))) (keptAs (r .desk)) × Ready (held (r .requests) (now (asked .exit))) (held (r .replies) (now (answered .exit))) (now (frame .exit)) ⌝ }
+{
+    let requests = run.requests;
+    let replies = run.replies;
+    let desk = run.desk;
+    match kind {
+        1 => {
+            let l = replay_piece(lease, Kind::Request, requests, asked, body, frame, desk);
+            let receiver = l.receiver;
+            let kept = l.desk;
+            Run {
+                requests: receiver,
+                replies,
+                desk: kept,
+            }
+        }
+        2 => {
+            let l = replay_piece(lease, Kind::Reply, replies, answered, body, frame, desk);
+            let receiver = l.receiver;
+            let kept = l.desk;
+            Run {
+                requests,
+                replies: receiver,
+                desk: kept,
+            }
+        }
+        3 => {
+            let none = &body[..0];
+            let one = replay_mark(requests, asked, none, frame);
+            let two = replay_mark(replies, answered, none, frame);
+            let kept = note_poll(desk);
+            Run {
+                requests: one,
+                replies: two,
+                desk: kept,
+            }
+        }
+        _ => run,
+    }
+}
+
+// The newest of the records that end at a place.
+fn replay_one(
+    lease: u32,
+    run: Run,
+    file: &[u8],
+    place: usize,
+    asked: &mut [u8],
+    answered: &mut [u8],
+    frame: &mut [u8],
+) -> Run
+    requires { ⌜ Ready (held (run .requests) (now asked)) (held (run .replies) (now answered)) (now frame) × (place ≤ length (now file)) × (1 ≤ length (recordsTo kinds (now file) place)) ⌝ }
+    ensures { λ r. ⌜ RunsOn lease (held (run .requests) (now (asked .entry))) (held (run .replies) (now (answered .entry))) (keptAs (run .desk)) (newestOf (now (file .entry)) place 1) (held (r .requests) (now (asked .exit))) (held (r .replies) (now (answered .exit))) (keptAs (r .desk)) × Ready (held (r .requests) (now (asked .exit))) (held (r .replies) (now (answered .exit))) (now (frame .exit)) ⌝ }
+{
+    let f = log::oldest::newest(file, place);
+    let start = f.start;
+    let end = start + f.size;
+    let body = &file[start..end];
+    replay_record(lease, run, f.kind, body, asked, answered, frame)
+}
+
+// The newest n of the records that end at a place, the oldest of them first: the older half, and then the newer. A log can only be read back
+// from its end, so that the older half's end is looked for from the place: n log n steps in all, and at most 16 calls deep.
+pub(crate) fn replay_newest(
+    lease: u32,
+    run: Run,
+    file: &[u8],
+    place: usize,
+    n: usize,
+    asked: &mut [u8],
+    answered: &mut [u8],
+    frame: &mut [u8],
+) -> Run
+    requires { ⌜ Ready (held (run .requests) (now asked)) (held (run .replies) (now answered)) (now frame) × (place ≤ length (now file)) × (n ≤ length (recordsTo kinds (now file) place)) ⌝ }
+    ensures { λ r. ⌜ RunsOn lease (held (run .requests) (now (asked .entry))) (held (run .replies) (now (answered .entry))) (keptAs (run .desk)) (newestOf (now (file .entry)) place n) (held (r .requests) (now (asked .exit))) (held (r .replies) (now (answered .exit))) (keptAs (r .desk)) × Ready (held (r .requests) (now (asked .exit))) (held (r .replies) (now (answered .exit))) (now (frame .exit)) ⌝ }
+{
+    if n == 0 {
+        return run;
+    }
+    if n == 1 {
+        return replay_one(lease, run, file, place, asked, answered, frame);
+    }
+    let newer = n / 2;
+    let middle = log::oldest::back_over(file, place, newer);
+    let half = replay_newest(lease, run, file, middle, n - newer, asked, answered, frame);
+    replay_newest(lease, half, file, place, newer, asked, answered, frame)
+}
