@@ -12,7 +12,10 @@ use Rattle.shdlc.specs.Stream.{Item, items}
 use Rattle.receiver.specs.Record.{fresh}
 use Rattle.receiver.specs.Series.{Call, results, reports, HandsIn}
 use Rattle.payload.specs.Field.{Bytes}
+use Rattle.board.specs.declared.entries.Bus.the-variants.{Serial}
+use Rattle.board.specs.declared.entries.Kind.the-variants.{Calibration}
 use Rattle.board.specs.declared.entries.Entry.{Entry}
+use Rattle.board.specs.Entries.{busNumber, kindNumber}
 use Rattle.board.specs.Orders.{leaseInRange}
 use Rattle.log.specs.Log.{LogRecord, kinds, recorded}
 use Rattle.log.specs.Check.{recordsOf}
@@ -30,7 +33,7 @@ itemsOn Reply (silent ∷ later) = itemsOn Reply later
 
 -- a temporary calibration on the serial bus
 abbrev pub SerialCalibration : Entry → Type 0
-SerialCalibration e = (e .bus ≡ 0) × (e .kind ≡ 2)
+SerialCalibration e = (e .bus ≡ busNumber Serial) × (e .kind ≡ kindNumber Calibration)
 
 unfoldable pub AllSerialCalibrations : List Entry → Type 0
 AllSerialCalibrations [] = Unit {0}
