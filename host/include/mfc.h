@@ -1,6 +1,7 @@
 /* Frames, requests and replies of SFC6 mass flow controllers on SHDLC, words and commands of
- * two sensor families on I2C, scaled readings, the handover board, and the shift log. No
- * function keeps state or a pointer, or allocates. Each takes any numbers and any bytes.
+ * two sensor families on I2C, scaled readings, the handover board, the shift log and its
+ * replay. No function keeps state or a pointer, or allocates. Each takes any numbers and any
+ * bytes.
  *
  * Compile with -Wconversion: C cuts a number that is too wide for its parameter, and address
  * 256 would be sent to 0.
@@ -31,7 +32,7 @@
  * is its body, its kind and the body's length (high byte, low byte); the last eight bytes are
  * the number of records and the bytes of all of them, each highest byte first. */
 
-/* Made by tools/header of crates/mfc/src and the crates below it: change it there. */
+/* Made by tools/header of crates/mfc, crates/mfc_replay and those below them: change it there. */
 #ifndef MFC_H
 #define MFC_H
 
@@ -524,6 +525,19 @@ mfc_words mfc_log_check(const uint8_t *file, size_t length);
  * nothing is listed of such a file; 1 where there is a row to lay and no room for one. */
 mfc_words mfc_log_list(const uint8_t *file, size_t length, size_t skip,
                        uint16_t *rows, size_t room);
+
+/* Runs a log through the receivers again, oldest record first: request-side bytes to a receiver
+ * of requests, reply-side bytes to one of replies, and a silence mark to both, which is also
+ * one poll. A reply frame is read against the latest request frame, and skipped where there is
+ * none or that one is refused as a request; an accepted reply does what mfc_board_reply does
+ * with this lease, on a board that is empty at the start. The entries at the log's end are
+ * listed and counted as by mfc_board_list. Refusals, in their order: 12 for a lease outside 1
+ * to 65,535; 20 to 23 as for mfc_log_check; 19 where an opening met all places held, even if
+ * one is free at the end; 1 where the room has fewer places than there are entries. A refusal
+ * changes nothing. Only temporary calibrations on the serial bus come out, since I2C is not in
+ * a log. */
+mfc_listed mfc_log_replay(const uint8_t *file, size_t length, uint32_t lease,
+                          mfc_entry *entries, size_t room);
 
 #ifdef __cplusplus
 }

@@ -86,7 +86,7 @@ pub(crate) fn entry_at(p: Places, i: usize) -> Entry
     p.rows[i]
 }
 
-pub(crate) fn free_place() -> Entry
+pub fn free_place() -> Entry
     ensures { λ r. ⌜ r ≡ free ⌝ }
 {
     Entry {

@@ -15,7 +15,6 @@ use crate::survey::is_valid;
 use refusal::Refusal;
 ghost use mathlib.Core.Path.{_≡_};
 ghost use mathlib.Core.Bool.{true, _&&_};
-ghost use mathlib.Core.List.{map};
 ghost use Prim.Native.Nat.{_≤_};
 ghost use lib.ListN.{take};
 ghost use Rattle.board.specs.Entries.{nodeInRange, entryOf, has};
@@ -241,7 +240,8 @@ fn planned(from: usize, to: usize, step: Step) -> Plan
     }
 }
 
-fn entry(node: Node, kind: Kind, lease: u16) -> Entry
+// The entry of a node and kind, with its polls left.
+pub fn entry(node: Node, kind: Kind, lease: u16) -> Entry
     ensures { λ r. ⌜ r ≡ entryOf node kind lease ⌝ }
 {
     let on = node.bus;
@@ -316,13 +316,6 @@ fn poll_in(p: Places, n: usize) -> Places
         i += 1;
     }
     q
-}
-
-// One poll of a board by value.
-pub fn poll(p: Places) -> Places
-    ensures { λ r. ⌜ r .rows ≡ map tick (p .rows) ⌝ }
-{
-    poll_in(p, 32)
 }
 
 fn each_in(p: Places, from: usize, to: usize, s: Step) -> Places

@@ -6,6 +6,7 @@ use crate::entries::entry_at;
 use crate::entries::no_entries;
 use crate::entries::with;
 use crate::listing::Listed;
+use crate::listing::Sorted;
 use crate::listing::list_of;
 use crate::orders::Answer;
 use crate::orders::Order;
@@ -28,7 +29,7 @@ ghost use lib.Dec.{eqb};
 ghost use lib.ListN.{length, take, drop};
 ghost use Rattle.board.specs.Entries.{empty, valid};
 ghost use Rattle.board.specs.Orders.{change, paperAnswer, numberIf, numbered};
-ghost use Rattle.board.specs.Listing.{list, numberedList};
+ghost use Rattle.board.specs.Listing.{list, numberedList, fewest, laidFirst};
 ghost use Rattle.board.specs.Private.{foundIn, polledIn, steps, Acts, Decided};
 
 // A plan with its answer as C gets it, the refusal's number and 0 for none.
@@ -172,6 +173,32 @@ pub fn change(t: &mut [Entry], o: Order) -> u8
     d.answer
 }
 
+// The fewest of the places that a list counts, its 32, and those of the room.
+fn fewest_of(count: usize, room: usize) -> usize
+    ensures { λ r. ⌜ r ≡ fewest count room ⌝ }
+{
+    if room < count {
+        if room < 32 {
+            return room;
+        }
+        return 32;
+    }
+    if 32 < count {
+        return 32;
+    }
+    count
+}
+
+// Lays a list by value at the start of the lent room, as many of its first places as it counts and the room has, and gives its answer. All
+// else in the room is as it was.
+pub fn lay(entries: &mut [Entry], s: Sorted) -> Listed
+    ensures { λ r. ⌜ (r ≡ s .answer) × (now (entries .exit) ≡ laidFirst (s .count) (s .places .rows) (now (entries .entry))) ⌝ }
+{
+    let n = fewest_of(s.count, entries.len());
+    store(entries, n, s.places);
+    s.answer
+}
+
 // Lists the board of a lent table at the start of the lent room, or refuses and changes nothing.
 pub fn list(t: &[Entry], entries: &mut [Entry]) -> Listed
     ensures { λ r. ⌜ (r, now (entries .exit)) ≡ numberedList (list (now (t .entry)) (now (entries .entry))) ⌝ }
@@ -179,6 +206,5 @@ pub fn list(t: &[Entry], entries: &mut [Entry]) -> Listed
     let n = places_of(t.len());
     let p = load(t, n);
     let s = list_of(n, p, entries.len());
-    store(entries, s.count, s.places);
-    s.answer
+    lay(entries, s)
 }

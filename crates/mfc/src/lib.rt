@@ -2,7 +2,8 @@
 // its first comment is the one that follows.
 
 // Frames, requests and replies of SFC6 mass flow controllers on SHDLC, words and commands of two sensor families on I2C, scaled
-// readings, the handover board, and the shift log. No function keeps state or a pointer, or allocates. Each takes any numbers and any bytes.
+// readings, the handover board, the shift log and its replay. No function keeps state or a pointer, or allocates. Each takes any numbers
+// and any bytes.
 //
 // Compile with -Wconversion: C cuts a number that is too wide for its parameter, and address 256 would be sent to 0.
 //

@@ -1,32 +1,37 @@
 -- The orders that the run carries out are those that the log means, on a table that (i) does not refuse. Assumes nothing.
-use Prim.Native.Nat.{ℕ}
+use Prim.Native.Nat.{ℕ, _≤_, _<_}
 use native.Mathlib.Omega.{arith}
 use mathlib.Core.Path.{_≡_, refl, sym, ap, subst, _∙_}
-use mathlib.Core.Bool.{Bool}
-use mathlib.Core.List.{List, [], _∷_, _++_}
+use mathlib.Core.Bool.{Bool, true, false, cond}
+use mathlib.Core.List.{List, [], _∷_, _++_, map}
 use mathlib.Core.Option.{Option, none, some}
+use lib.Dec.{ltb, eqb}
 use lib.ListN.{length, take, drop}
-use borrow.Author.Tests.{eq-eqb}
-use Rattle.refusal.specs.declared.Refusal.{Refusal}
-use Rattle.refusal.specs.Refusals.{Numbered, Answered, served, refused, paper}
+use lib.Seq.{take-length}
+use borrow.Author.Tests.{lt-ltb, le-ltb}
+use Rattle.refusal.specs.Refusals.{Numbered, number, Answered, served, refused}
 use Rattle.shdlc.specs.declared.Kind.the-variants.{Request, Reply}
 use Rattle.sfc6.specs.declared.Request.{Request as Asked}
 use Rattle.sfc6.specs.Reading.{andThen, readRequest}
 use Rattle.replies.specs.Reader.{Got, readReply}
+use Rattle.board.specs.declared.entries.Bus.the-variants.{Serial}
+use Rattle.board.specs.declared.entries.Kind.{Kind as BoardKind}
+use Rattle.board.specs.declared.entries.Kind.the-variants.{Calibration}
+use Rattle.board.specs.declared.entries.Node.{Node}
 use Rattle.board.specs.declared.entries.Entry.{Entry}
 use Rattle.board.specs.declared.listing.Listed.{Listed}
-use Rattle.board.specs.declared.orders.Answer.{Answer}
-use Rattle.board.specs.declared.orders.Answer.the-variants as answer′
+use Rattle.board.specs.declared.listing.Sorted.{Sorted}
 use Rattle.board.specs.declared.orders.Order.{Order}
-use Rattle.board.specs.declared.orders.Order.the-variants.{Open, Close, Restart, Poll, Unnamed, Nothing}
+use Rattle.board.specs.declared.orders.Order.the-variants.{Open, Close, Restart, Poll}
 use Rattle.board.specs.Entries.{empty}
-use Rattle.board.specs.Orders.{Outcome, change, paperAnswer}
-use Rattle.board.specs.Listing.{standingIn, listed, listAnswer, counted}
+use Rattle.board.specs.Orders.{Outcome, orderInRange, done, change}
+use Rattle.board.specs.Listing.{standingIn, listed, counted}
 use Rattle.board.proofs.Lists.{Promised}
 use Rattle.handover.specs.Wire.{orderOfReply}
 use Rattle.board.proofs.Handover.{Sound, sound-change, sound-kept}
-use Rattle.replay.specs.Replay.{Told, yielded, silent, against, answering, ordersFrom, orRefused, boardFrom, roomFor}
-use Rattle.replay.specs.Private.{after, Kept, known, carried, put, answer, noted, nothingYet, listingOf, entriesOf}
+use Rattle.board.proofs.Sorting.{isHeld, length-listed, count-most}
+use Rattle.replay.specs.Replay.{Told, yielded, silent, against, answering, ordersFrom, orRefused, boardFrom}
+use Rattle.replay.specs.Private.{after, Kept, known, carried, put, answer, noted, serial, entryIn, boardIn, OfLog, Good, listOf, Lists, Gives}
 
 abbrev kept : Option (ℕ × Asked) → Answered (List Entry) → Kept
 kept l board = record { latest = l; board = board }
@@ -41,18 +46,31 @@ given-refused n entries room r count rows (a, b, c) =
 pub carry-by : (t : List Entry) (o other : Order) (x : Answered (List Entry)) → o ≡ other → x ≡ carried t other → x ≡ carried t o
 carry-by t o other x h e = e ∙ sym (ap (carried t) h)
 
--- the board before it is one, or was refused
-module _ (a : Answer) (t : List Entry) (o : Order) where
-  abbrev board : Answer → Answered (List Entry)
-  board b = orRefused (paperAnswer b, t)
+-- which orders a log can make
+pub open-of : (o : Order) (node : Node) (kind : BoardKind) (lease : ℕ) → o ≡ Open node kind lease → OfLog o → o ≡ Open (serial (node .address)) Calibration lease
+open-of o node kind lease h ok =
+    let e : (node .bus ≡ Serial) × (kind ≡ Calibration) = subst OfLog h ok in
+    h ∙ (λ i. Open (record { bus = e .0 i; address = node .address }) (e .1 i) lease)
 
-  pub put-done : (x : Answered (List Entry)) → a ≡ answer′.Done → x ≡ carried t o → x ≡ put (board a) o
-  unfolding put
-  put-done x h e = e ∙ sym (ap (λ (b : Answer). andThen (board b) (λ s. carried s o)) h)
+pub close-of : (o : Order) (node : Node) (kind : BoardKind) → o ≡ Close node kind → OfLog o → o ≡ Close (serial (node .address)) Calibration
+close-of o node kind h ok =
+    let e : (node .bus ≡ Serial) × (kind ≡ Calibration) = subst OfLog h ok in
+    h ∙ (λ i. Close (record { bus = e .0 i; address = node .address }) (e .1 i))
 
-  pub put-late : (why : Refusal) → a ≡ answer′.Refused why → board a ≡ put (board a) o
+pub no-restart : {A : Type 0} (o : Order) (node : Node) → o ≡ Restart node → OfLog o → A
+no-restart o node h ok = absurd (subst OfLog h ok)
+
+-- an order to the board before it is refused one, and after
+module _ (b : List ℕ) (ended : ℕ) (o : Order) where
+  pub put-done : (x : Answered (List Entry)) → eqb ended 0 ≡ true → x ≡ carried (map entryIn b) o → x ≡ put (boardIn ended b) o
   unfolding put
-  put-late why h = subst (λ (b : Answer). board b ≡ andThen (board b) (λ s. carried s o)) (sym h) refl
+  put-done x h e = e ∙ sym (ap (λ (t : Bool). andThen (cond t (served (map entryIn b)) (refused (number ended))) (λ s. carried s o)) h)
+
+  pub put-late : eqb ended 0 ≡ false → boardIn ended b ≡ put (boardIn ended b) o
+  unfolding put
+  put-late h =
+      subst (λ (t : Bool). cond t (served (map entryIn b)) (refused (number ended)) ≡ andThen (cond t (served (map entryIn b)) (refused (number ended))) (λ s. carried s o))
+      (sym h) refl
 
 -- what a reply asks, and what is kept of it
 pub order-known : (l : Option (ℕ × Asked)) (address : ℕ) (request : Asked) (body : List ℕ) (lease : ℕ) (a : Answered Got × Option Bool) (r : Order)
@@ -65,32 +83,56 @@ pub kept-put : (l : Option (ℕ × Asked)) (x b : Answered (List Entry)) (o othe
 kept-put l x b o other e h = ap (kept l) (e ∙ ap (put b) h)
 
 -- a request frame
-pub kept-request : (b : Answered (List Entry)) (body : List ℕ) (a : Answered (ℕ × Asked)) → a ≡ readRequest body
-    → kept (known a) b ≡ kept (known (readRequest body)) b
-kept-request b body a e = ap (λ (x : Answered (ℕ × Asked)). kept (known x) b) e
-
-pub nothing-kept : (rows : List Entry) → rows ≡ empty → kept none (served rows) ≡ nothingYet
-nothing-kept rows e = ap (λ (t : List Entry). kept none (served t)) e
+pub kept-request : (l : Option (ℕ × Asked)) (ended was : ℕ) (b body : List ℕ) → l ≡ known (readRequest body) → ended ≡ was
+    → kept l (boardIn ended b) ≡ kept (known (readRequest body)) (boardIn was b)
+kept-request l ended was b body e f = λ i. kept (e i) (boardIn (f i) b)
 
 -- the list of a board
-module _ (a : Answer) (t : List Entry) (room : ℕ) (r : Listed) (count : ℕ) (rows : List Entry) where
-  abbrev Lists : Answer → Type 0
-  Lists b = Promised (listingOf (orRefused (paperAnswer b, t)) room) (entriesOf (orRefused (paperAnswer b, t))) room r count rows
+module _ (b : List ℕ) (ended room : ℕ) (r : Sorted) where
+  abbrev Given : Bool → Type 0
+  Given t = Gives (listOf (cond t (served (map entryIn b)) (refused (number ended)))) room r
 
-  pub list-done : a ≡ answer′.Done → Promised (listAnswer t room) (listed (standingIn t)) room r count rows → Lists a
-  list-done h g = subst Lists (sym h) g
+  pub list-late : eqb ended 0 ≡ false → (r .answer ≡ counted (refused (number ended))) × (r .count ≡ 0) × (r .places .rows ≡ empty) → Given (eqb ended 0)
+  list-late h g = subst Given (sym h) (given-refused (number ended) [] room (r .answer) (r .count) (r .places .rows) g)
 
-  pub list-late : (why : Refusal) → a ≡ answer′.Refused why → (r ≡ counted (refused (paper why))) × (count ≡ 0) × (rows ≡ empty) → Lists a
-  list-late why h g = subst Lists (sym h) (given-refused (paper why) [] room r count rows g)
+  module _ (h : eqb ended 0 ≡ true) where
+    abbrev entries : List Entry
+    entries = listed (standingIn (map entryIn b))
 
--- ---- the two that are carried out without the checks
+    -- there is no room for it
+    pub list-no-room : (s : Sorted) → Lists entries s → room < s .count
+        → (r .answer ≡ counted (refused (number 1))) × (r .count ≡ 0) × (r .places .rows ≡ empty) → Given (eqb ended 0)
+    list-no-room s l small g =
+        let t : ltb room (length entries) ≡ true = lt-ltb room (length entries) (subst (λ (n : ℕ). room < n) (l .1) small) in
+        let no-room = given-refused (number 1) entries room (r .answer) (r .count) (r .places .rows) g in
+        subst Given (sym h)
+        (no-room .0 ∙ sym (ap (λ (x : Bool). counted (cond x (refused (number 1)) (served (length entries)))) t), no-room .1, no-room .2, no-room .3, no-room .4)
+
+    pub list-done : Lists entries r → r .count ≤ room → length entries ≤ 32 → Given (eqb ended 0)
+    list-done l fits few =
+        let n = l .1 in
+        let t : ltb room (length entries) ≡ false = le-ltb room (length entries) (subst (λ (m : ℕ). m ≤ room) n fits) in
+        subst Given (sym h) (
+          l .0 ∙ sym (ap (λ (x : Bool). counted (cond x (refused (number 1)) (served (length entries)))) t),
+          n ∙ sym (ap (λ (x : Listed). x .count) (l .0)),
+          l .2 ∙ (λ i. sym (take-length entries) i ++ drop (length entries) empty) ∙ (λ i. take (sym n i) entries ++ drop (sym n i) empty),
+          fits,
+          subst (λ (m : ℕ). m ≤ 32) (sym n) few,
+        )
+
+pub good-served : (ended : ℕ) (b : List ℕ) → eqb ended 0 ≡ true → Good (boardIn ended b) → Good (served (map entryIn b))
+good-served ended b h g = subst (λ (t : Bool). Good (cond t (served (map entryIn b)) (refused (number ended)))) h g
+
+pub few-listed : (t : List Entry) → Good (served t) → length (listed (standingIn t)) ≤ 32
+few-listed t s = omega (arith, length-listed t (s .1), count-most isHeld t, s .0)
+
+-- ---- the checks that are left out
 carried-sound : (t : List Entry) (o : Order) → Sound t → carried t o ≡ orRefused (change t o)
-carried-sound t (Open node kind lease) s = refl
-carried-sound t (Close node kind) s = refl
-carried-sound t (Restart node) s = refl
-carried-sound t Poll s = sym (ap orRefused (sound-change t Poll s))
-carried-sound t Unnamed s = refl
-carried-sound t Nothing s = sym (ap orRefused (sound-change t Nothing s))
+carried-sound t o s = go (orderInRange o) ∙ sym (ap orRefused (sound-change t o s))
+  where
+    go : (b : Bool) → cond b (orRefused (done o t)) (refused (number 12)) ≡ orRefused (cond b (done o t) (refused (number 12), t))
+    go true = refl
+    go false = refl
 
 -- ---- orders one after the other
 putAll : Answered (List Entry) → List Order → Answered (List Entry)
@@ -144,20 +186,12 @@ pub kept-board : (lease : ℕ) (ts : List Told) (t : List Entry) → Sound t
 kept-board lease ts t s = noted-orders lease ts none (served t) ∙ put-sound (ordersFrom lease none ts) t s
 
 -- ---- the table at the end is one that (i) lists
-abbrev pub SoundBoard : Answered (List Entry) → Type 0
-SoundBoard (served t) = Sound t
-SoundBoard (refused n) = Unit {0}
-
-pub sound-board : (os : List Order) (t : List Entry) → Sound t → SoundBoard (boardFrom t os)
+pub sound-board : (os : List Order) (t : List Entry) → Sound t → Good (boardFrom t os)
 unfolding boardFrom
 sound-board [] t s = s
 sound-board (o ∷ os) t s = go (change t o) (sound-kept t o s) (sound-board os)
   where
-    go : (c : Outcome) → Sound (c .1) → ((next : List Entry) → Sound next → SoundBoard (boardFrom next os))
-        → SoundBoard (andThen (orRefused c) (λ next. boardFrom next os))
+    go : (c : Outcome) → Sound (c .1) → ((next : List Entry) → Sound next → Good (boardFrom next os))
+        → Good (andThen (orRefused c) (λ next. boardFrom next os))
     go (served u, next) k more = more next k
     go (refused n, next) k more = tt
-
-pub sound-list : (t : List Entry) (room : ℕ) → Sound t → listAnswer t room ≡ roomFor (served (listed (standingIn t))) room
-unfolding listAnswer
-sound-list t room s = rw (eq-eqb (length t) 32 (s .0), s .1)

@@ -2,11 +2,11 @@
 use Prim.Native.Nat.{ℕ, zero, suc, _+_, _-_, _≤_}
 use native.Mathlib.Omega.{arith}
 use mathlib.Core.Path.{_≡_, refl, sym, ap, subst, _∙_}
-use mathlib.Core.Bool.{Bool, true, false, cond, _&&_}
+use mathlib.Core.Bool.{Bool, true, false, _&&_}
 use mathlib.Core.List.{List, [], _∷_, _++_, map, append-assoc, append-nil}
 use lib.Dec.{ltb}
 use lib.ListN.{length, take, drop, length-drop, drop-of-length-le, take-append-drop}
-use lib.Seq.{take-all}
+use lib.Seq.{take-all, drop-drop}
 use Rattle.refusal.specs.Refusals.{number, served, refused}
 use Rattle.refusal.proofs.Room.{overlay-holds}
 use Rattle.shdlc.specs.declared.Kind.{Kind}
@@ -21,6 +21,7 @@ use Rattle.receiver.specs.Series.{gained}
 use Rattle.receiver.proofs.Callers.{taking, Hears, hears, gained-append, gained-nothing}
 use Rattle.replay.specs.Replay.{yielded}
 use Rattle.replay.specs.Private.{after, Kept, noted, notedAnswer, frameLength, GoesOn, Marks}
+use Rattle.replay.proofs.Serial.{by-test}
 use Rattle.replay.proofs.Noting.{after-append, map-yielded, nothing-noted, refused-noted}
 
 -- by nothing, by one part and another, by a call
@@ -70,11 +71,6 @@ module _ (lease : ℕ) (side : Kind) where
       λ last end h.
       rest last end (subst (λ (es : List Event). GoesOn lease side r k es last end) (parts n left) (goes-then r next last k then end (map byte (take n left)) (map byte (drop n left)) g h))
 
-drop-drop : (a n : ℕ) (l : List ℕ) → drop n (drop a l) ≡ drop (a + n) l
-drop-drop zero n l = let e : n ≡ 0 + n = omega arith in ap (λ (m : ℕ). drop m l) e
-drop-drop (suc a) n [] = drop-of-length-le [] {i = n} (omega arith) ∙ sym (drop-of-length-le [] {i = suc a + n} (omega arith))
-drop-drop (suc a) n (x ∷ l) = let e : suc (a + n) ≡ suc a + n = omega arith in drop-drop a n l ∙ ap (λ (m : ℕ). drop m (x ∷ l)) e
-
 -- a slice from a place on
 rest-of : (a : ℕ) (l : List ℕ) → take (length l - a) (drop a l) ≡ drop a l
 rest-of a l = take-all (length l - a) (drop a l) (omega (arith, length-drop a l))
@@ -86,7 +82,7 @@ module _ (lease : ℕ) (side : Kind) (r₀ : Record) (k₀ : Kept) (whole : List
       → then ≡ notedAnswer lease side k (o .result .said) (o .result .buffer)
       → Rest lease side r₀ k₀ whole r k (drop a whole) → Rest lease side r₀ k₀ whole (o .leaves) then (drop (a + n) whole)
   rest-call r k then buffer o a n t l e f rest =
-      subst (Rest lease side r₀ k₀ whole (o .leaves) then) (drop-drop a n whole)
+      subst (Rest lease side r₀ k₀ whole (o .leaves) then) (drop-drop n a whole)
       (rest-more lease side r₀ k₀ whole r (o .leaves) k then (drop a whole) n
       (subst (λ (m : ℕ). GoesOn lease side r k (map byte (take m (drop a whole))) (o .leaves) then) (sym t)
       (goes-fed lease side r k then false (drop a whole) buffer o l (e ∙ ap (λ (p : List ℕ). feedOf r false p buffer) (rest-of a whole)) f)) rest)
@@ -107,10 +103,6 @@ unfolding saidLength
 said-length answers.Nothing = refl
 said-length (answers.Frame n) = refl
 said-length (answers.Refused r) = refl
-
-by-test : {A : Type 0} (P : A → Type 0) (t : Bool) {a b : A} → P a → P b → P (cond t a b)
-by-test P true p q = p
-by-test P false p q = q
 
 item-holds : (i : Item) (buffer : List ℕ) → saidLength (saidOf i) ≤ length (bufferOf i buffer)
 unfolding saidLength

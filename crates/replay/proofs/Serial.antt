@@ -1,6 +1,6 @@
 -- "I2C entries are not in the log and stay empty": only temporary calibrations on the serial line come out of a replay. Assumes nothing.
 use Prim.Native.Nat.{ℕ, zero, suc}
-use mathlib.Core.Path.{_≡_, refl, sym, subst, _∙_}
+use mathlib.Core.Path.{_≡_, refl, sym, ap, subst, _∙_}
 use mathlib.Core.Bool.{Bool, true, false, cond, not}
 use mathlib.Core.Logic.{_⊎_, inl, inr}
 use mathlib.Core.List.{List, [], _∷_, _++_, map}
@@ -29,16 +29,9 @@ use Rattle.handover.specs.Wire.{acceptedBy, orderOfReply}
 use Rattle.log.specs.Log.{LogRecord}
 use Rattle.replay.specs.Claims.{SerialCalibration, AllSerialCalibrations}
 use Rattle.replay.specs.Replay.{Told, yielded, silent, told, against, answering, ordersFrom, orders, orRefused, boardFrom, replayedBy}
+use Rattle.replay.specs.Private.{answer, OfLog}
 
--- ---- the orders: what they open is such an entry
-abbrev pub OfLog : Order → Type 0
-OfLog (Open node kind lease) = (busNumber (node .bus) ≡ 0) × (kindNumber kind ≡ 2)
-OfLog (Close node kind) = Unit {0}
-OfLog (Restart node) = Unit {0}
-OfLog Poll = Unit {0}
-OfLog Unnamed = Unit {0}
-OfLog Nothing = Unit {0}
-
+-- ---- the orders: what they open and close is such an entry
 abbrev AllOfLog : List Order → Type 0
 AllOfLog [] = Unit {0}
 AllOfLog (o ∷ os) = OfLog o × AllOfLog os
@@ -58,7 +51,7 @@ accepted-log address NumberOfCalibrations lease = tt
 accepted-log address (Validity index) lease = tt
 accepted-log address FullScale lease = tt
 accepted-log address GetCalibration lease = tt
-accepted-log address (SetCalibration n) lease = tt
+accepted-log address (SetCalibration n) lease = (refl, refl)
 accepted-log address (VolatileCalibration n) lease = (refl, refl)
 accepted-log address GetAddress lease = tt
 accepted-log address (SetAddress a) lease = tt
@@ -77,6 +70,11 @@ against-log (refused n) reply lease = tt
 answering-log : (latest : Option (List ℕ)) (reply : List ℕ) (lease : ℕ) → OfLog (answering latest reply lease)
 answering-log (some frame) reply lease = against-log (readRequest frame) reply lease
 answering-log none reply lease = tt
+
+-- so of what the run keeps of a request
+pub answer-log : (latest : Option (ℕ × Asked)) (reply : List ℕ) (lease : ℕ) → OfLog (answer latest reply lease)
+answer-log none reply lease = tt
+answer-log (some (address, request)) reply lease = reply-log address request (readReply address request reply .0) lease
 
 orders-log : (lease : ℕ) (ts : List Told) (latest : Option (List ℕ)) → AllOfLog (ordersFrom lease latest ts)
 unfolding ordersFrom
@@ -121,8 +119,9 @@ Leaves o = AllFine (o .1)
 done-fine : (o : Order) (t : List Entry) → OfLog o → AllFine t → Leaves (done o t)
 unfolding opened
 done-fine (Open node kind lease) t h g =
-    by-test Leaves (holds (isOf node kind) t) (fine-set t (placeOf (isOf node kind) t) (entryOf node kind lease) g (inr h))
-    (by-test Leaves (holds isFree t) (fine-set t (placeOf isFree t) (entryOf node kind lease) g (inr h)) g)
+    let new : Fine (entryOf node kind lease) = inr (ap busNumber (h .0), ap kindNumber (h .1)) in
+    by-test Leaves (holds (isOf node kind) t) (fine-set t (placeOf (isOf node kind) t) (entryOf node kind lease) g new)
+    (by-test Leaves (holds isFree t) (fine-set t (placeOf isFree t) (entryOf node kind lease) g new) g)
 done-fine (Close node kind) t h g = fine-map (freed (isOf node kind)) (fine-freed (isOf node kind)) t g
 done-fine (Restart node) t h g = fine-map (freed (onNode node)) (fine-freed (onNode node)) t g
 done-fine Poll t h g = fine-map tick fine-tick t g

@@ -18,12 +18,11 @@ use Rattle.receiver.specs.declared.Made.the-variants as made
 use Rattle.receiver.specs.Record.{Record, held, inRange, fresh, recordFrom}
 use Rattle.receiver.specs.Calls.{paperMade, freshOf}
 use Rattle.receiver.proofs.EverySeries.{demand3}
-use Rattle.sfc6.specs.Reading.{andThen}
 use Rattle.board.specs.declared.entries.Entry.{Entry}
 use Rattle.board.specs.declared.listing.Listed.{Listed}
 use Rattle.board.specs.Entries.{empty}
 use Rattle.board.specs.Orders.{leaseInRange}
-use Rattle.board.specs.Listing.{standingIn, listed, counted}
+use Rattle.board.specs.Listing.{counted}
 use Rattle.board.proofs.Handover.{sound-empty}
 use Rattle.board.proofs.Lists.{Promised}
 use Rattle.log.specs.Log.{LogRecord, kinds}
@@ -32,8 +31,8 @@ use Rattle.log.specs.Private.{shown as listing}
 use Rattle.log.specs.Oldest.{recordsTo}
 use Rattle.log.proofs.Turns.{Passed, passed}
 use Rattle.replay.specs.Replay.{joinedOn, toldFrom, told, orders, replayedBy, roomFor, shown, replayed, replayAnswer}
-use Rattle.replay.specs.Private.{after, Kept, noted, nothingYet, RunsOn, newestOf, boardOf, listingOf, entriesOf}
-use Rattle.replay.proofs.Carrying.{given-refused, kept-board, SoundBoard, sound-board, sound-list}
+use Rattle.replay.specs.Private.{after, Kept, noted, nothingYet, RunsOn, newestOf, boardOf, Good, listOf}
+use Rattle.replay.proofs.Carrying.{given-refused, kept-board, sound-board}
 
 -- ---- a store of 260 bytes is made a fresh record
 made-fresh : (kind : Kind) (m : Made) (store last : List ℕ) → length store ≡ 260 → (paperMade m last, last) ≡ freshOf kind store
@@ -85,6 +84,11 @@ module _ (file : List ℕ) (count lease : ℕ) (checked : served count ≡ count
       ∙ ap (λ (rs : List LogRecord). after (noted lease) nothingYet (toldFrom [] rs) .board) all-records
       ∙ kept-board lease (told (reverse (listing (recordsOf kinds file)))) empty sound-empty
 
+-- what it leaves is a board that (i) does not refuse
+pub good-left : (file : List ℕ) (lease : ℕ) (board : Answered (List Entry)) → board ≡ boardOf file lease → Good board
+unfolding boardOf
+good-left file lease board e = subst Good (sym e) (sound-board (orders lease (reverse (listing (recordsOf kinds file)))) empty sound-empty)
+
 -- a law for each return
 module _ (file : List ℕ) (lease room : ℕ) (r : Listed) (count : ℕ) (rows : List Entry) where
   abbrev Replays : Answered (List Entry) → Type 0
@@ -114,19 +118,9 @@ module _ (file : List ℕ) (lease room : ℕ) (r : Listed) (count : ℕ) (rows :
     log-refused n f g = whole (refused n) (check-refused n (counting-refused n (recordsOf kinds file) f)) (given-refused n [] room r count rows g)
 
     served-board : (listed′ : List LogRecord) → recordsOf kinds file ≡ served listed′
-        → replayed file lease ≡ andThen (boardOf file lease) (λ t. served (listed (standingIn t)))
+        → replayed file lease ≡ listOf (boardOf file lease)
     unfolding replayed replayedBy boardOf
     served-board l f = rw (← e, not-false b h, f)
 
-    pub log-replayed : (n : ℕ) → served n ≡ counting (recordsOf kinds file) → (board : Answered (List Entry)) → board ≡ boardOf file lease
-        → Promised (listingOf board room) (entriesOf board) room r count rows → Whole
-    unfolding boardOf
-    log-replayed n f board is g =
-        whole (andThen (boardOf file lease) (λ t. served (listed (standingIn t)))) (served-board (p file n lease f .listing) (p file n lease f .is))
-        (go (boardOf file lease) (sound-board (orders lease (reverse (listing (recordsOf kinds file)))) empty sound-empty)
-        (subst (λ (x : Answered (List Entry)). Promised (listingOf x room) (entriesOf x) room r count rows) is g))
-      where
-        go : (x : Answered (List Entry)) → SoundBoard x → Promised (listingOf x room) (entriesOf x) room r count rows
-            → Replays (andThen x (λ t. served (listed (standingIn t))))
-        go (served t) s y = subst (λ (a : Answered ℕ). Promised a (listed (standingIn t)) room r count rows) (sound-list t room s) y
-        go (refused m) s y = y
+    pub log-replayed : (n : ℕ) → served n ≡ counting (recordsOf kinds file) → Replays (listOf (boardOf file lease)) → Whole
+    log-replayed n f g = whole (listOf (boardOf file lease)) (served-board (p file n lease f .listing) (p file n lease f .is)) g

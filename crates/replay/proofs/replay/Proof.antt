@@ -20,9 +20,9 @@ returns-2 c =
 
 returns-3 : tie.Need-returns-3
 returns-3 c =
-    let k = c .before .before .before .before .before in
+    let k = c .before .before .before .before in
     log-replayed _ _ _ _ _ _ _ (k .before .before .lease-in-range .ensures) (k .before .if1 .left) _
-    (sym (ap paperAnswer (c .before .before .before .count .given .1)) ∙ k .check .ensures) _ (c .before .replay-all .ensures) (c .list-board .ensures)
+    (sym (ap paperAnswer (c .before .before .count .given .1)) ∙ k .check .ensures) (c .replay-all .ensures)
 
 pub replay-spec : {M : Type 1} → statement M
-replay-spec = tie.close (tie.spec (λ c κs. search needs) (λ c κs. search needs) returns (λ c κs. search needs) (λ c. search needs) (λ c κs. search needs) (λ c. search needs) all-requires (λ c κs. search needs) returns-2 returns-3)
+replay-spec = tie.close (tie.spec (λ c κs. search needs) (λ c κs. search needs) returns (λ c κs. search needs) (λ c. search needs) (λ c κs. search needs) (λ c. search needs) all-requires returns-2 returns-3)

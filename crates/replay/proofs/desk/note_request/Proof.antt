@@ -1,8 +1,8 @@
 -- `replay::desk::note_request` meets its contract. Assumes nothing.
 use borrow.Author.Needs.{needs}
-use mathlib.Core.Path.{sym, ap, _∙_}
+use mathlib.Core.Path.{refl, sym, ap, _∙_}
 use Rattle.sfc6.specs.Paper.{paperRead}
-use Rattle.replay.proofs.Carrying.{kept-request}
+use Rattle.replay.specs.Private.{known}
 use Rattle.replay.proofs.desk.note_request.Statement.{statement}
 use Rattle.replay.proofs.desk.note_request.Tie as tie
 
@@ -13,5 +13,5 @@ note-request-spec =
     (λ c κs. search needs)
     (λ c. search needs)
     (λ c. search needs)
-    (λ c. kept-request _ _ _ (sym (ap paperRead (c .before .address .given .1)) ∙ c .before .before .before .read-request .ensures))
-    (λ c. kept-request _ _ _ (sym (ap paperRead (c .enum-told .given .1)) ∙ c .before .before .read-request .ensures)))
+    (λ c. (ap known (sym (ap paperRead (c .before .address .given .1)) ∙ c .before .before .before .read-request .ensures), refl))
+    (λ c. (ap known (sym (ap paperRead (c .enum-told .given .1)) ∙ c .before .before .read-request .ensures), refl)))

@@ -16,10 +16,10 @@ part-of a n l = let e : a + n - a ≡ n = omega arith in ap (λ (m : ℕ). take 
 
 returns : tie.Need-returns
 returns c =
-    let r = c .before .before .before .before .before .before in
-    let f = r .before .before .before .before .before .before in
-    let s = f .before .before .before .before .before in
-    let bytes : Bytes (s .args .file .now) = λ i. f .before .before .before .before .shared-slice-known .given i .fits in (
+    let r = c .before .before .before .before .before .before .before .before in
+    let f = r .before .before .before .before .before .before .before in
+    let s = f .before .before .before .before .before .before in
+    let bytes : Bytes (s .args .file .now) = λ i. f .before .before .before .before .before .shared-slice-known .given i .fits in (
       runs-1 _ _ _ _ _ _ _ _ _ _ _ _ _ bytes (s .pre .1) (s .pre .2) (f .newest .ensures .0) (part-of (f .newest .result .start) (f .newest .result .size) (drop (f .newest .result .start) (s .args .file .now))) (r .replay-record .ensures .0),
       r .replay-record .ensures .1,
     )
@@ -34,6 +34,7 @@ replay-one-spec =
     (λ c. search needs)
     (λ c. search needs)
     (λ c κs. search needs)
+    (λ c. search needs)
     (λ c. search needs)
     (λ c. search needs)
     (λ c. search needs)

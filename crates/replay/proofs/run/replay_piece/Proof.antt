@@ -16,21 +16,22 @@ use Rattle.replay.proofs.run.replay_piece.Statement.{statement}
 use Rattle.replay.proofs.run.replay_piece.Tie as tie
 
 abbrev Inv-loop : tie.InvT-loop
-Inv-loop lease side store₀ piece frame₀ r₀ d₀ at₀ store frame r d at =
+Inv-loop lease side store₀ piece frame₀ board₀ r₀ d₀ at₀ store frame board r d at =
     (at ≤ length piece)
     × (length store ≡ length store₀)
     × (length frame ≡ length frame₀)
     × (260 ≤ length frame)
     × (inRange (held r store) ≡ true)
-    × Rest lease side (held r₀ store₀) (keptAs d₀) piece (held r store) (keptAs d) (drop at piece)
+    × (length board ≡ length board₀)
+    × Rest lease side (held r₀ store₀) (keptAs d₀ board₀) piece (held r store) (keptAs d board) (drop at piece)
 
 abbrev μ-loop : tie.MeasureT-loop
-μ-loop lease side store₀ piece frame₀ r₀ d₀ at₀ store frame r d at = length piece - at
+μ-loop lease side store₀ piece frame₀ board₀ r₀ d₀ at₀ store frame board r d at = length piece - at
 
 -- a call of `feed` in a turn
 module _ (f : tie.After-feed Inv-loop μ-loop) where
   abbrev whole : List ℕ
-  whole = f .before .before .before .before .before .before .before .before .before .args .piece .now
+  whole = f .before .before .before .before .before .before .before .before .before .before .args .piece .now
 
   abbrev place : ℕ
   place = f .before .before .before .before .before .loop .at
@@ -73,28 +74,31 @@ replay-piece-spec =
     (tie.spec
     Inv-loop
     μ-loop
-    (λ c. (omega arith, refl, refl, c .before .before .before .pre .1, c .before .before .before .pre .0, λ last end h. h))
+    (λ c. let s = c .before .before .before .before in (omega arith, refl, refl, s .pre .1, s .pre .0, refl, λ last end h. h))
     (λ c. search needs)
     (λ c. search needs)
     (λ c. search needs)
     (λ c κs. search needs)
-    (λ c κs. within (c .before .before .before .before .before .before))
+    (λ c κs. within (c .before .before .before .before .before .before .before))
     (λ c.
-    let f = c .before .before .before .before .before .before .before in
-    omega (arith, bound f, f .before .before .before .before .before .before .before .before .before .good .1 .1 .1 .1 .0 .0))
+    let f = c .before .before .before .before .before .before .before .before .before .before in
+    omega (arith, bound f, f .before .before .before .before .before .before .before .before .before .before .good .1 .1 .1 .1 .0 .0))
     (λ c.
-    let f = c .before .before .before .before .before .before .before in
+    let f = c .before .before .before .before .before .before .before .before .before .before in
     omega (arith, bound f, more f))
     (λ c.
-    let f = c .before .before .before .before .before .before .before in
+    let n = c .before .before in
+    let f = n .before .before .before .before .before .before .before .before in
     let l = f .before .before .before .before .before .loop in (
       bound f,
       f .feed .kept .1 .0 ∙ l .inv .1,
       f .feed .kept .1 .1 .1 .1 .0 ∙ l .inv .2,
       omega (arith, room f, f .feed .kept .1 .1 .1 .1 .0),
       fed-in-range (rec f) (ranged f) false (part f) (l .frame) (gave f) (room f) (f .feed .ensures),
-      rest-call _ _ _ _ (whole f) (rec f) _ _ (l .frame) (gave f) (place f) _ refl (room f) (f .feed .ensures) (c .note-answer .ensures) (l .inv .5),
+      n .note-answer .kept .1 .1 .1 .0 ∙ l .inv .5,
+      rest-call _ _ _ _ (whole f) (rec f) _ _ (l .frame) (gave f) (place f) _ refl (room f) (f .feed .ensures) (n .note-answer .ensures) (l .inv .6),
     ))
     (λ c. c .before .loop .inv .1)
     (λ c. c .before .loop .inv .2)
-    (λ c. (rest-end _ _ _ _ _ _ _ (c .before .loop .at) (omega arith) (c .before .loop .inv .5), c .before .loop .inv .4)))
+    (λ c. c .before .loop .inv .5)
+    (λ c. (rest-end _ _ _ _ _ _ _ (c .before .loop .at) (omega arith) (c .before .loop .inv .6), c .before .loop .inv .4)))
