@@ -11,6 +11,7 @@
 #include "bench.h"
 #include "bench_board.h"
 #include "bench_log.h"
+#include "bench_replay.h"
 #include "mfc.h"
 #include "plain.h"
 #include "stack.h"
@@ -417,6 +418,56 @@ static void compare_requests(uint8_t address, uint8_t request, uint32_t value)
     }
 }
 
+static void compare_read_request(const uint8_t *body, size_t n)
+{
+    mfc_request a = mfc_read_request(body, n);
+    struct plain_request b = plain_read_request(body, n);
+
+    compare(a.refusal == b.refusal && a.address == b.address && a.request == b.request && a.value == b.value, "read request");
+}
+
+static const uint8_t commands[] = { 0x00, 0x08, 0x22, 0x30, 0x40, 0x44, 0x45, 0x46, 0x90, 0x91, 0xD0, 0xD3 };
+
+/* A body with a right checksum, then the same with each byte off by one. */
+static void compare_request_bodies(uint8_t address, uint8_t command, const uint8_t *data, size_t n)
+{
+    uint8_t body[16] = { 0 };
+
+    body[0] = address;
+    body[1] = command;
+    body[2] = (uint8_t)n;
+    memcpy(body + 3, data, n);
+    body[3 + n] = mfc_checksum(body, 3 + n);
+    compare_read_request(body, n + 4);
+    for (size_t i = 0; i < n + 4; i++) {
+        body[i]++;
+        compare_read_request(body, n + 4);
+        body[i]--;
+    }
+}
+
+/* A subcommand and a value, or a value alone: its bytes, one more, or its last ones. */
+static void compare_read_requests(void)
+{
+    static const uint8_t subs[] = { 0x00, 0x01, 0x02, 0x03, 0x10, 0x14, 0x7F };
+    static const uint8_t body[300] = { 0 };
+
+    for (size_t c = 0; c < sizeof commands; c++)
+        for (size_t s = 0; s < sizeof subs; s++)
+            for (size_t v = 0; v < VALUES; v++) {
+                uint8_t data[6] = { subs[s], 0, 0, 0, 0, 9 }, address = (uint8_t)(v % 2 == 0 ? 7 : 255);
+
+                for (unsigned k = 0; k < 4; k++)
+                    data[1 + k] = (uint8_t)(values[v] >> (24 - 8 * k));
+                for (size_t n = 0; n <= 6; n++)
+                    compare_request_bodies(address, commands[c], data, n);
+                for (size_t n = 0; n <= 4; n++)
+                    compare_request_bodies(address, commands[c], data + 5 - n, n);
+            }
+    for (size_t n = 0; n <= sizeof body; n++)
+        compare_read_request(body, n);
+}
+
 static void compare_written_reply(uint8_t address, uint8_t request, uint8_t reply, uint32_t value, const uint8_t *bytes,
                                   size_t n, size_t room)
 {
@@ -464,7 +515,6 @@ static void compare_bodies(uint8_t request, uint8_t command, uint8_t state, cons
 
 static void compare_replies(uint8_t request)
 {
-    static const uint8_t commands[] = { 0x00, 0x08, 0x22, 0x30, 0x40, 0x44, 0x45, 0x46, 0x90, 0x91, 0xD0, 0xD3 };
     static const uint8_t states[4] = { 0x00, 0x00, 0x85, 0x80 };
 
     for (uint8_t reply = 0; reply <= 16; reply++)
@@ -547,6 +597,7 @@ static void compare_all(void)
         for (uint8_t request = 0; request <= 21; request++)
             for (size_t v = 0; v < VALUES; v++)
                 compare_requests(addresses[a], request, values[v]);
+    compare_read_requests();
     for (uint8_t request = 0; request <= 21; request++)
         compare_replies(request);
     compare_texts();
@@ -567,6 +618,7 @@ static void compare_all(void)
     compare_words(0x00, liquid_words);
     compare_boards();
     compare_logs();
+    compare_replays();
 }
 
 /* ---- the clock ---- */
@@ -685,6 +737,7 @@ static void measure_all(void)
     measure("read three words, C without a table", "call", ROW, words_library, words_folded);
     measure_boards();
     measure_logs();
+    measure_replays();
 }
 
 /* ---- the stack ---- */
@@ -816,7 +869,7 @@ static void print_stacks(void)
         { "mfc_board_restart", use_board_restart }, { "mfc_board_poll", use_board_poll }, { "mfc_board_list", use_board_list },
         { "mfc_board_reply", use_board_reply }, { "mfc_board_acknowledged", use_board_acknowledged },
         { "mfc_log_empty", use_log_empty }, { "mfc_log_append", use_log_append }, { "mfc_log_check", use_log_check },
-        { "mfc_log_list", use_log_list },
+        { "mfc_log_list", use_log_list }, { "mfc_log_replay", use_log_replay },
     };
 
     lay_bodies();
@@ -848,6 +901,7 @@ int main(int argc, char **argv)
     lay_logs();
     broken_n = broken_traffic(broken, sizeof broken);
     noise_bytes(noise, sizeof noise);
+    lay_replays();
     for (size_t i = 0; i < sizeof letters; i++)
         letters[i] = (uint8_t)('A' + i % 26);
     for (size_t i = 0; i < sizeof specials; i++)

@@ -156,8 +156,7 @@ void measure_boards(void)
 
 /* ---- the same answers ---- */
 
-/* A place more than a table has, to be lent as well, or to be left alone. */
-#define LENT (PLACES + 1)
+#define LENT LENT_PLACES
 
 static mfc_entry one[LENT], other[LENT];
 
@@ -167,7 +166,7 @@ static int same_entry(mfc_entry a, mfc_entry b)
     return a.kind == b.kind && a.bus == b.bus && a.address == b.address && a.left == b.left;
 }
 
-static int same_tables(const mfc_entry *a, const mfc_entry *b)
+int same_tables(const mfc_entry *a, const mfc_entry *b)
 {
     for (size_t i = 0; i < LENT; i++)
         if (!same_entry(a[i], b[i]))

@@ -2,6 +2,14 @@
 #ifndef BENCH_BOARD_H
 #define BENCH_BOARD_H
 
+#include "mfc.h"
+
+/* A place more than a table has, to be lent as well, or to be left alone. */
+#define LENT_PLACES (MFC_BOARD_PLACES + 1)
+
+/* Whether two tables or lists of so many places are the same. */
+int same_tables(const mfc_entry *a, const mfc_entry *b);
+
 /* To be called before any of the others. */
 void lay_boards(void);
 

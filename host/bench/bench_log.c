@@ -7,8 +7,8 @@
 
 #include <string.h>
 
-#define CLOSE 8                  /* the bytes that close a log: count and total */
-#define TRAILER 3                /* the bytes behind a body: kind and length */
+#define CLOSE LOG_CLOSE
+#define TRAILER LOG_TRAILER
 #define MOST 65000               /* bytes of all records */
 #define MARKS (MOST / TRAILER)   /* the most records that a log can have */
 #define SHORT 128                /* room for a log of three records and one more */
@@ -16,8 +16,6 @@
 #define NEWEST 24                /* rows of a list of the newest */
 #define WINDOW 256               /* rows of a list in parts */
 #define LENT 70000               /* more than any log has */
-
-struct log { uint8_t *file; size_t length, count; };
 
 static uint8_t traffic_file[MFC_LOG_ROOM], longer_file[MFC_LOG_ROOM], marks_file[MFC_LOG_ROOM], large_file[MFC_LOG_ROOM];
 static uint8_t empty_file[CLOSE + TRAILER + LONG_BODY], short_files[ROW][SHORT];
@@ -30,8 +28,6 @@ static struct log short_logs[ROW];
 static uint8_t bytes[LENT];      /* of the bodies to be added */
 
 /* ---- logs ---- */
-
-/* They are laid by neither of the two that are measured. */
 
 static void put(uint8_t *at, size_t n, size_t value)
 {
@@ -53,15 +49,26 @@ static void lay_close(uint8_t *file, size_t total, size_t count)
     put(file + total + 4, 4, total);
 }
 
-static void lay_record(struct log *log, uint8_t kind, size_t n)
+/* The body of n bytes is there, in the place of the bytes that close the log. */
+static void end_record(struct log *log, uint8_t kind, size_t n)
 {
-    uint8_t *at = log->file + log->length - CLOSE;
-
-    random_bytes(at, n);
-    lay_trailer(at + n, kind, n);
+    lay_trailer(log->file + log->length - CLOSE + n, kind, n);
     log->length += n + TRAILER;
     log->count++;
     lay_close(log->file, log->length - CLOSE, log->count);
+}
+
+static void lay_record(struct log *log, uint8_t kind, size_t n)
+{
+    random_bytes(log->file + log->length - CLOSE, n);
+    end_record(log, kind, n);
+}
+
+void lay_body(struct log *log, uint8_t kind, const uint8_t *body, size_t n)
+{
+    if (n > 0)
+        memcpy(log->file + log->length - CLOSE, body, n);
+    end_record(log, kind, n);
 }
 
 static void lay_request(struct log *log) { lay_record(log, MFC_LOG_REQUEST, 6 + any(3)); }

@@ -2,6 +2,18 @@
 #ifndef BENCH_LOG_H
 #define BENCH_LOG_H
 
+#include <stddef.h>
+#include <stdint.h>
+
+#define LOG_CLOSE 8              /* the bytes that close a log: count and total */
+#define LOG_TRAILER 3            /* the bytes behind a body: kind and length */
+
+/* A log of `count` records; LOG_CLOSE zeros are the one without any. */
+struct log { uint8_t *file; size_t length, count; };
+
+/* Adds a record. Logs are laid by neither of the two that are measured. */
+void lay_body(struct log *log, uint8_t kind, const uint8_t *body, size_t n);
+
 /* To be called before any of the others. */
 void lay_logs(void);
 

@@ -242,6 +242,79 @@ static inline uint8_t request_refusal(uint8_t address, uint8_t request, uint32_t
     return value > 254 ? 12 : address == 255 ? 10 : 0;
 }
 
+/* A number of 0, 1, 2 or 4 bytes, most significant first. */
+static inline uint32_t number_at(const uint8_t *data, size_t size)
+{
+    if (size == 4)
+        return (uint32_t)data[0] << 24 | (uint32_t)data[1] << 16 | (uint32_t)data[2] << 8 | data[3];
+    if (size == 2)
+        return (uint32_t)data[0] << 8 | data[1];
+    return size == 1 ? data[0] : 0;
+}
+
+/* Whether bytes and checksum make 255. */
+static inline int is_sum_right(const uint8_t *body, size_t n)
+{
+    unsigned sum = 0;
+
+    for (size_t i = 0; i < n; i++)
+        sum += body[i];
+    return (sum & 0xFF) == 0xFF;
+}
+
+/* The first request of a command in the table, where those of one command follow on each other; 21 for none. */
+static inline uint8_t first_of(uint8_t command)
+{
+    switch (command) {
+    case 0x00: return 0;
+    case 0x08: return 2;
+    case 0x22: return 3;
+    case 0x30: return 7;
+    case 0x40: return 10;
+    case 0x44: return 12;
+    case 0x45: return 13;
+    case 0x46: return 15;
+    case 0x90: return 16;
+    case 0x91: return 18;
+    case 0xD0: return 20;
+    default: return 21;
+    }
+}
+
+struct plain_request plain_read_request(const uint8_t *body, size_t n)
+{
+    struct plain_request read = { 0, 0, 0, 0 };
+
+    if (n > 259 || n < 4 || body[2] != n - 4) {
+        read.refusal = n > 259 ? 5 : n < 4 ? 6 : 7;
+        return read;
+    }
+    read.refusal = 8;
+    if (!is_sum_right(body, n))
+        return read;
+    read.refusal = 11;
+    for (uint8_t request = first_of(body[1]); request < 21 && forms[request].command == body[1]; request++) {
+        const struct form *form = &forms[request];
+        size_t sub = form->sub != NO_SUB, size = sizes[form->carries];
+        uint32_t value;
+
+        if (sub > 0 && (n == 4 || body[3] != form->sub))
+            continue;
+        read.refusal = 12;
+        if (n - 4 != sub + size)
+            continue;
+        value = number_at(body + 3 + sub, size);
+        read.refusal = request_refusal(body[0], request, value);
+        if (read.refusal == 0) {
+            read.address = body[0];
+            read.request = request;
+            read.value = value;
+        }
+        return read;
+    }
+    return read;
+}
+
 /* A byte behind the frame so far, stuffed. */
 static inline uint8_t *put(uint8_t *out, uint8_t byte)
 {
@@ -401,22 +474,11 @@ struct plain_written plain_write_reply(uint8_t address, uint8_t request, uint32_
     return written;
 }
 
-/* A number of 0, 1, 2 or 4 bytes, most significant first. */
-static inline uint32_t number_at(const uint8_t *data, size_t size)
-{
-    if (size == 4)
-        return (uint32_t)data[0] << 24 | (uint32_t)data[1] << 16 | (uint32_t)data[2] << 8 | data[3];
-    if (size == 2)
-        return (uint32_t)data[0] << 8 | data[1];
-    return size == 1 ? data[0] : 0;
-}
-
 struct plain_reply plain_read_reply(uint8_t address, uint8_t request, uint32_t value, const uint8_t *body, size_t n)
 {
     struct plain_reply answer = { 0, 0, 0, 0, 0, 0, 0 };
     const struct form *form;
     const uint8_t *data = body + 4;
-    unsigned sum = 0;
     uint8_t code;
     size_t length;
 
@@ -427,9 +489,7 @@ struct plain_reply plain_read_reply(uint8_t address, uint8_t request, uint32_t v
         answer.refusal = n > 260 ? 5 : n < 5 ? 6 : 7;
         return answer;
     }
-    for (size_t i = 0; i < n; i++)
-        sum += body[i];
-    if ((sum & 0xFF) != 0xFF) {
+    if (!is_sum_right(body, n)) {
         answer.refusal = 8;
         return answer;
     }

@@ -20,6 +20,7 @@ struct plain_fed { uint8_t refusal; uint16_t place; size_t frame_length, taken; 
 
 struct plain_written { uint8_t refusal; size_t length; };
 struct plain_words { uint8_t refusal; size_t count; };
+struct plain_request { uint8_t refusal, address, request; uint32_t value; };
 struct plain_reply { uint8_t refusal, code, bit7, reply; uint32_t value; size_t text_start, text_length; };
 
 void plain_fresh(struct plain_receiver *receiver, uint8_t kind);
@@ -35,6 +36,7 @@ struct plain_fed plain_feed_own(struct plain_receiver *receiver, uint8_t silence
 struct plain_written plain_write_request(uint8_t address, uint8_t request, uint32_t value, uint8_t *out, size_t room);
 struct plain_written plain_write_reply(uint8_t address, uint8_t request, uint32_t value, uint8_t reply, uint32_t reply_value,
                                        const uint8_t *text, size_t n, uint8_t bit7, uint8_t *out, size_t room);
+struct plain_request plain_read_request(const uint8_t *body, size_t n);
 struct plain_reply plain_read_reply(uint8_t address, uint8_t request, uint32_t value, const uint8_t *body, size_t n);
 
 /* CRC-8 with a table of 256 bytes, and folded for boards without room for one. */

@@ -9,6 +9,10 @@ uint8_t plain_board_open(mfc_entry *table, size_t places, uint8_t bus, uint8_t a
 uint8_t plain_board_close(mfc_entry *table, size_t places, uint8_t bus, uint8_t address, uint8_t kind);
 uint8_t plain_board_restart(mfc_entry *table, size_t places, uint8_t bus, uint8_t address);
 uint8_t plain_board_poll(mfc_entry *table, size_t places);
+
+/* Does less: it trusts the table. */
+void plain_board_poll_own(mfc_entry *table);
+
 mfc_listed plain_board_list(const mfc_entry *table, size_t places, mfc_entry *entries, size_t room);
 
 #endif

@@ -174,3 +174,13 @@ mfc_words plain_log_list(const uint8_t *file, size_t length, size_t skip, uint16
     listed.count = count;
     return listed;
 }
+
+void plain_log_ends(const uint8_t *file, size_t length, uint16_t *ends, size_t count)
+{
+    const uint8_t *end = file + length - CLOSE;
+
+    while (count > 0) {
+        ends[--count] = (uint16_t)(end - file);
+        end -= TRAILER + length_of(end - TRAILER);
+    }
+}

@@ -10,4 +10,7 @@ mfc_written plain_log_append(uint8_t *file, size_t room, size_t length, uint8_t 
 mfc_words plain_log_check(const uint8_t *file, size_t length);
 mfc_words plain_log_list(const uint8_t *file, size_t length, size_t skip, uint16_t *rows, size_t room);
 
+/* Does less: of a log that was checked and has `count` records, it says where each of them ends in the file, oldest first. */
+void plain_log_ends(const uint8_t *file, size_t length, uint16_t *ends, size_t count);
+
 #endif

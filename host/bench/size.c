@@ -11,7 +11,7 @@ static const any functions[] = {
     (any)mfc_edit_user, (any)mfc_edit_advanced,
     (any)mfc_scaled, (any)mfc_scaled_float, (any)mfc_board_open, (any)mfc_board_close, (any)mfc_board_restart,
     (any)mfc_board_poll, (any)mfc_board_list, (any)mfc_board_reply, (any)mfc_board_acknowledged, (any)mfc_log_empty,
-    (any)mfc_log_append, (any)mfc_log_check, (any)mfc_log_list,
+    (any)mfc_log_append, (any)mfc_log_check, (any)mfc_log_list, (any)mfc_log_replay,
 };
 #else
 static const any functions[] = { 0 };

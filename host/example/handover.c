@@ -1,5 +1,6 @@
 #include "handover.h"
 
+#include "board_words.h"
 #include "words.h"
 
 #include <stdio.h>
@@ -9,12 +10,6 @@ static unsigned long missed;              /* what was done at a node and not tak
 static unsigned long faults;              /* times that it could not be polled or shown */
 
 int handover_is_whole(void) { return missed == 0 && faults == 0; }
-
-/* An I2C address in hexadecimal, as the maker's papers write it. */
-static void node_words(uint8_t bus, uint8_t address, char *text, size_t room)
-{
-    (void)snprintf(text, room, bus == MFC_BUS_I2C ? "I2C %02X" : "serial %u", address);
-}
 
 /* What a refused call leaves wrong on the board, or NULL where the call concerns no entry. */
 static const char *reply_missed(uint8_t request)
@@ -93,54 +88,20 @@ void handover_poll(void)
         tell_fault("polled", refusal);
 }
 
-static void print_entry(mfc_entry entry)
-{
-    int valve = entry.kind == MFC_ENTRY_VALVE;
-    char node[16];
-
-    node_words(entry.bus, entry.address, node, sizeof node);
-    (void)printf("  %s: %s, ", node, valve ? "valve forced shut" : "temporary calibration");
-    if (entry.left == 0)
-        (void)printf("DUE: %s\n", valve ? "return it to normal control, or renew it"
-                                        : "set a calibration for good, restart the controller, or renew it");
-    else
-        (void)printf("%u %s left\n", entry.left, entry.left == 1 ? "poll" : "polls");
-}
-
-static const char *entries_words(size_t count) { return count == 1 ? "entry" : "entries"; }
-
-/* `due` of the board's `count` entries have no poll left. */
-static void print_head(size_t count, size_t due)
-{
-    (void)printf("handover board: ");
-    if (count == 0)
-        (void)printf("empty");
-    else
-        (void)printf("%lu %s%s", (unsigned long)count, entries_words(count), count == MFC_BOARD_PLACES ? " (full)" : "");
-    if (due > 0)
-        (void)printf(", %lu DUE", (unsigned long)due);
-    else if (count > 0)
-        (void)printf(", none due");
-    if (missed > 0)
-        (void)printf("; NOT noted since the start: %lu, see what was written down by hand", missed);
-    (void)printf("\n");
-}
-
 void handover_print(void)
 {
     mfc_entry entries[MFC_BOARD_PLACES];
     mfc_listed listed = mfc_board_list(table, MFC_BOARD_PLACES, entries, MFC_BOARD_PLACES);
-    size_t due = 0;
 
     if (listed.refusal != 0) {
         tell_fault("shown", listed.refusal);
         return;
     }
-    for (size_t i = 0; i < listed.count; i++)
-        due += entries[i].left == 0;
-    print_head(listed.count, due);
-    for (size_t i = 0; i < listed.count; i++)
-        print_entry(entries[i]);
+    print_head(entries, listed.count);
+    if (missed > 0)
+        (void)printf("; NOT noted since the start: %lu, see what was written down by hand", missed);
+    (void)printf("\n");
+    print_entries(entries, listed.count);
 }
 
 void handover_end(void)

@@ -171,6 +171,16 @@ static enum heard hear(struct line *line, int64_t until)
     }
 }
 
+/* Waits until bytes arrive or the line has been silent for the timeout. The log keeps that silence. */
+static enum heard hear_out(struct line *line)
+{
+    enum heard heard = hear(line, silent_at(line));
+
+    if (heard == QUIET)
+        log_record(MFC_LOG_SILENCE, NULL, 0);
+    return heard;
+}
+
 /* Returns how many of the bytes the line took: all of them, unless it is gone. */
 static size_t put(struct line *line, const uint8_t *bytes, size_t n)
 {
@@ -200,29 +210,44 @@ static int send_all(struct line *line, const uint8_t *bytes, size_t n)
     return sent == n;
 }
 
-/* Hands the receiver what it has not yet had: the silence, where some came, and the bytes behind it, maybe none. It takes up to the
-   next item's last byte, and the rest stays for the next call. With 1 and 2 it took nothing and has not dealt with the silence, which
-   stays too: a fault of this program, since record and room are its own. */
-static mfc_fed feed(struct line *line)
+/* Hands the receiver what it has not yet had: the silence, where it is to be told of some, and the next n bytes, maybe none. It takes up
+   to the next item's last byte, and the rest stays for the next call. With 1 and 2 it took nothing and has not dealt with the silence,
+   which stays too: a fault of this program, since record and room are its own. */
+static mfc_fed feed(struct line *line, size_t n)
 {
-    mfc_fed fed = mfc_feed(line->record, sizeof line->record, line->silence, line->bytes + line->start, line->end - line->start,
-                           line->frame, sizeof line->frame);
+    mfc_fed fed = mfc_feed(line->record, sizeof line->record, line->silence, line->bytes + line->start, n, line->frame,
+                           sizeof line->frame);
 
     line->fault = 0;
     if (fed.refusal == MFC_REFUSAL_NO_ROOM || fed.refusal == MFC_REFUSAL_BAD_RECORD) {
         line->fault = fed.refusal;
         return fed;
     }
-    if (line->silence)
-        log_record(MFC_LOG_SILENCE, NULL, 0);
     line->silence = 0;
     line->start += fed.taken;
     return fed;
 }
 
+/* Tells the receiver of silence. Returns 0 where it is refused. */
+static int mark(struct line *line)
+{
+    line->silence = 1;
+    (void)feed(line, 0);
+    return line->fault == 0;
+}
+
+int line_mark(struct line *line)
+{
+    int marked = mark(line);
+
+    if (marked)
+        log_record(MFC_LOG_SILENCE, NULL, 0);
+    return marked;
+}
+
 /* Before a question: what is here now answers no open question, so it is thrown away, and where there was any the line must
    first fall silent. The mark then cuts what the receiver had begun: its refusal 9 is not the answer's. Without this a late answer
-   could run into the next one. */
+   could run into the next one. The log has no mark where the line was not waited for. */
 static int settle(struct line *line)
 {
     int64_t limit = now_ms() + (int64_t)line->timeout_ms * LONGEST;
@@ -231,7 +256,7 @@ static int settle(struct line *line)
     line->fault = 0;
     line->stray += line->end - line->start;
     do {
-        enum heard heard = hear(line, wait ? silent_at(line) : now_ms());
+        enum heard heard = wait ? hear_out(line) : hear(line, now_ms());
 
         if (heard == GONE)
             return 0;
@@ -242,9 +267,7 @@ static int settle(struct line *line)
     } while (now_ms() < limit);
     line->start = line->end = 0;
     line->restless = 0;
-    line->silence = 1;
-    (void)feed(line);
-    return line->fault == 0;
+    return mark(line);
 }
 
 int line_send(struct line *line, const uint8_t *bytes, size_t n)
@@ -261,11 +284,11 @@ static enum heard next_item(struct line *line, int64_t limit, mfc_fed *fed)
     enum heard heard = BYTES;
 
     do {
-        *fed = feed(line);
+        *fed = feed(line, line->end - line->start);
         if (heard == QUIET || fed->refusal != 0 || fed->frame_length != 0)
             return heard;
         line->restless = now_ms() >= limit;
-        heard = line->restless ? QUIET : hear(line, silent_at(line));
+        heard = line->restless ? QUIET : hear_out(line);
         if (heard == QUIET)
             line->silence = 1;
     } while (heard != GONE);

@@ -1,5 +1,5 @@
 /* line.h: a serial line with one master (this program), and one question at a time on it. What crosses it goes to the log (log.h), where
-   one is kept: each piece as it was sent or heard, and each silence mark. */
+   one is kept: each piece as it was sent or heard, each silence that was waited for and heard, and the marks of line_mark. */
 #ifndef LINE_H
 #define LINE_H
 
@@ -13,7 +13,7 @@ struct line {
     int fd;
     int timeout_ms;              /* the line counts as silent after so long without a byte */
     int restless;                /* the last question ended with the line not known to be quiet */
-    uint8_t silence;             /* whether silence came that the receiver has not dealt with */
+    uint8_t silence;             /* whether the receiver is to be told of silence, and has not dealt with it */
     uint8_t fault;               /* 1 or 2 where the receiver's last call was refused so, by a fault of this program; else 0 */
     unsigned long heard;         /* bytes that arrived */
     unsigned long stray;         /* those of them thrown away because no question was open */
@@ -58,6 +58,10 @@ int line_is_over(struct answer answer);
 
 /* Sends bytes as they are, after what line_ask does before a question. Returns 0 if the line is over. */
 int line_send(struct line *line, const uint8_t *bytes, size_t n);
+
+/* To be called where the handover board is polled, between two questions: tells the receiver of silence, and gives the log that mark. A
+   replay polls its board once for each mark. Returns 0, and logs nothing, if the receiver refuses it: the line is over. */
+int line_mark(struct line *line);
 
 /* Waits for the next item, taking bytes as needed. `*refusal` is 0 with a frame, whose length is returned; the refusal's
    number with length 0; and 0 with length 0 where the line fell silent or is gone. With 1 and 2, a fault of this program, silence and bytes

@@ -232,6 +232,18 @@ static uint32_t print_growth(const struct line *line, uint32_t before)
     return noise;
 }
 
+/* A whole round: the board is polled, and the log says where. Returns 0, with the board not polled, if the line is over. */
+static int end_round(struct plant *plant, struct counts *counts)
+{
+    if (plant->bus)
+        poll_sensors(counts);
+    if (!line_mark(&plant->line))
+        return 0;
+    handover_poll();
+    console_round();
+    return 1;
+}
+
 /* A round that is broken off takes no poll from the board, and shows it all the same. Returns 0 if the line is over. */
 static int poll_rounds(struct plant *plant, const struct options *options, struct results *results)
 {
@@ -243,12 +255,8 @@ static int poll_rounds(struct plant *plant, const struct options *options, struc
         there = await_round(plant, next, &results->undone);
         next = now_ms() + options->every * 1000;
         there = there && poll_rack(plant, &results->line);
-        if (there && !stop) {
-            if (plant->bus)
-                poll_sensors(&results->bus);
-            handover_poll();
-            console_round();
-        }
+        if (there && !stop)
+            there = end_round(plant, &results->bus);
         noise = print_growth(&plant->line, noise);
         handover_print();
         log_save();

@@ -41,7 +41,7 @@ impl Held {
     }
 }
 
-struct Board(BTreeMap<Key, Held>);
+pub struct Board(BTreeMap<Key, Held>);
 
 fn is_node(bus: u8, address: u8) -> bool {
     match bus {
@@ -70,6 +70,11 @@ fn is_free(place: &Entry) -> bool {
 }
 
 impl Board {
+    /// With every place free.
+    pub fn empty() -> Board {
+        Board(BTreeMap::new())
+    }
+
     /// The board that a table is, or 1 or 2.
     fn of(table: &[Entry]) -> Result<Board, u8> {
         if table.len() != PLACES {
@@ -117,6 +122,29 @@ impl Board {
         self.0.remove(&key);
         Ok(())
     }
+
+    pub fn poll(&mut self) {
+        self.0.values_mut().filter(|held| held.left > 0).for_each(|held| held.left -= 1);
+    }
+
+    pub fn reply(&mut self, address: u8, request: u8, refusal: u8, lease: u32) -> Result<(), u8> {
+        let key = (SERIAL, address, CALIBRATION);
+        match (request, refusal) {
+            (VOLATILE_CALIBRATION, 0) => self.open(key, lease),
+            (SET_CALIBRATION, 0) => self.close(key),
+            (0..=LAST_REQUEST, _) => Ok(()),
+            _ => Err(12),
+        }
+    }
+
+    /// Lays the entries at the start of the room and counts them, or gives 1.
+    pub fn list(&self, entries: &mut [Entry]) -> Result<usize, u8> {
+        let room = entries.get_mut(..self.0.len()).ok_or(1_u8)?;
+        for (place, (key, held)) in room.iter_mut().zip(&self.0) {
+            *place = held.entry(*key);
+        }
+        Ok(self.0.len())
+    }
 }
 
 /// Does a piece of work on the table's board; the table changes where nothing is refused.
@@ -148,33 +176,24 @@ pub fn restart(table: &mut [Entry], bus: u8, address: u8) -> u8 {
 
 pub fn poll(table: &mut [Entry]) -> u8 {
     on_board(table, |board| {
-        board.0.values_mut().filter(|held| held.left > 0).for_each(|held| held.left -= 1);
+        board.poll();
         Ok(())
     })
 }
 
-pub fn list(table: &[Entry], entries: &mut [Entry]) -> Listed {
-    let refused = |refusal| Listed { refusal, count: 0 };
-    match Board::of(table) {
-        Err(refusal) => refused(refusal),
-        Ok(board) if board.0.len() > entries.len() => refused(1),
-        Ok(board) => {
-            for (place, (key, held)) in entries.iter_mut().zip(&board.0) {
-                *place = held.entry(*key);
-            }
-            Listed { refusal: 0, count: board.0.len() }
-        }
+pub fn listed(answer: Result<usize, u8>) -> Listed {
+    match answer {
+        Ok(count) => Listed { refusal: 0, count },
+        Err(refusal) => Listed { refusal, count: 0 },
     }
 }
 
+pub fn list(table: &[Entry], entries: &mut [Entry]) -> Listed {
+    listed(Board::of(table).and_then(|board| board.list(entries)))
+}
+
 pub fn reply(table: &mut [Entry], address: u8, request: u8, refusal: u8, lease: u32) -> u8 {
-    let key = (SERIAL, address, CALIBRATION);
-    on_board(table, |board| match (request, refusal) {
-        (VOLATILE_CALIBRATION, 0) => board.open(key, lease),
-        (SET_CALIBRATION, 0) => board.close(key),
-        (0..=LAST_REQUEST, _) => Ok(()),
-        _ => Err(12),
-    })
+    on_board(table, |board| board.reply(address, request, refusal, lease))
 }
 
 pub fn acknowledged(table: &mut [Entry], address: u8, code: u16, lease: u32) -> u8 {

@@ -423,12 +423,73 @@ static void log_refusals(void)
     expect(mfc_log_check(good, sizeof good).refusal == 0, "the empty log", 0);
 }
 
+/* ---- The replay, by 02 (vi) */
+
+/* Adds a request to an address and an answer to it that is accepted. */
+static size_t exchanged(size_t length, uint8_t address, uint8_t request)
+{
+    uint8_t frame[MFC_REPLY_ROOM], reply = commands[request].reply;
+    uint32_t value = request == MFC_REQUEST_SET_BAUD || reply == MFC_REPLY_BAUD ? 9600 : 1;
+    size_t n = mfc_write_request(address, request, value, frame, sizeof frame).length;
+    length = mfc_log_append(file, sizeof file, length, MFC_LOG_REQUEST, frame, n).length;
+    n = mfc_write_reply(address, request, value, reply, value, NULL, 0, 0, frame, sizeof frame).length;
+    return mfc_log_append(file, sizeof file, length, MFC_LOG_REPLY, frame, n).length;
+}
+
+/* Each request in turn: 46 opens a calibration on serial, 45 set closes it, the others concern no entry. */
+static void replay_names(void)
+{
+    mfc_entry entries[1];
+    for (uint8_t request = 0; request < REQUESTS; request++) {
+        size_t length = exchanged(mfc_log_empty(file, sizeof file).length, 5, MFC_REQUEST_VOLATILE_CALIBRATION);
+        mfc_listed listed = mfc_log_replay(file, length, 9, entries, 1);
+        expect(listed.refusal == 0 && listed.count == 1, "46 answered", request);
+        expect(holds(entries[0], MFC_BUS_SERIAL, 5, MFC_ENTRY_CALIBRATION, 9), "what it opens", request);
+        length = mfc_log_append(file, sizeof file, length, MFC_LOG_SILENCE, NULL, 0).length;
+        length = exchanged(length, 5, request);
+        listed = mfc_log_replay(file, length, 9, entries, 1);
+        expect(listed.count == (request == MFC_REQUEST_SET_CALIBRATION ? 0 : 1), "the entries after this request", request);
+        uint16_t left = request == MFC_REQUEST_VOLATILE_CALIBRATION ? 9 : 8;
+        expect(listed.count == 0 || entries[0].left == left, "the polls left after this request", request);
+    }
+}
+
+/* MFC_BOARD_PLACES entries hold any list: with so many places 1 never comes, and a log that would have more entries is refused. */
+static void replay_room(void)
+{
+    mfc_entry entries[MFC_BOARD_PLACES + 1];
+    size_t length = mfc_log_empty(file, sizeof file).length;
+    for (size_t n = 0; n <= MFC_BOARD_PLACES + 1; n++) {
+        for (size_t room = 0; room <= MFC_BOARD_PLACES + 1; room++) {
+            int refusal = n > MFC_BOARD_PLACES ? MFC_REFUSAL_BOARD_FULL : n > room ? MFC_REFUSAL_NO_ROOM : 0;
+            mfc_listed listed = mfc_log_replay(file, length, 9, entries, room);
+            expect(listed.refusal == refusal && listed.count == (refusal ? 0 : n), "so many entries", n);
+        }
+        length = exchanged(length, (uint8_t)(20 + n), MFC_REQUEST_VOLATILE_CALIBRATION);
+    }
+}
+
+/* A lease of 1 to 65,535, and its refusal before that of the log. */
+static void replay_lease(void)
+{
+    mfc_entry entries[1];
+    size_t length = exchanged(mfc_log_empty(file, sizeof file).length, 5, MFC_REQUEST_VOLATILE_CALIBRATION);
+    for (uint32_t lease = 0; lease <= 65600; lease++) {
+        int good = lease >= 1 && lease <= 65535;
+        mfc_listed listed = mfc_log_replay(file, length, lease, entries, 1);
+        expect(listed.refusal == (good ? 0 : MFC_REFUSAL_OUT_OF_RANGE), "a lease", lease);
+        expect(!good || entries[0].left == lease, "the polls of a lease", lease);
+        listed = mfc_log_replay(file, length - 1, lease, entries, 1);
+        expect(listed.refusal == (good ? MFC_REFUSAL_BAD_TOTAL : MFC_REFUSAL_OUT_OF_RANGE), "a lease and no log", lease);
+    }
+}
+
 int main(int argc, char **argv)
 {
     static void (*const sections[])(void) = {
         record_size, frame_room,   request_room,  reply_room,  requests_and_replies, kinds,    refusals,  start_values,
         i2c_codes,   board_places, board_numbers, board_names, board_full,           log_room, log_kinds, log_row,
-        log_refusals, noise_count, silence_numbers,
+        log_refusals, noise_count, silence_numbers, replay_names, replay_room, replay_lease,
     };
     const int count = sizeof sections / sizeof sections[0];
     if (argc != 2) {

@@ -19,6 +19,11 @@ mod log_generate;
 mod log_sections;
 mod log_vectors;
 mod reference;
+mod replay;
+mod replay_cases;
+mod replay_generate;
+mod replay_sections;
+mod replay_vectors;
 mod vectors;
 
 use cases::*;
@@ -1101,6 +1106,7 @@ fn main() {
     vectors::run(&mut report);
     board_vectors::run(&mut report);
     log_vectors::run(&mut report);
+    replay_vectors::run(&mut report);
     report.section("checksum", checksum_section);
     report.section("crc", crc_section);
     report.section("write a request", write_request_section);
@@ -1150,6 +1156,7 @@ fn main() {
     report.section("scaled readings: the reference itself", float_reference_section);
     board_sections::run(&mut report);
     log_sections::run(&mut report);
+    replay_sections::run(&mut report);
     let (sections, cases) = (report.sections, thousands(report.cases));
     println!("differential: {sections} sections, {cases} cases, {} failures", report.failures);
     if report.failures > 0 {

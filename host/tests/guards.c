@@ -54,6 +54,7 @@ mfc_written mfc_log_empty(uint8_t *file, size_t room);
 mfc_written mfc_log_append(uint8_t *file, size_t room, size_t length, uint8_t kind, const uint8_t *body, size_t n);
 mfc_words mfc_log_check(const uint8_t *file, size_t length);
 mfc_words mfc_log_list(const uint8_t *file, size_t length, size_t skip, uint16_t *rows, size_t room);
+mfc_listed mfc_log_replay(const uint8_t *file, size_t length, uint32_t lease, mfc_entry *entries, size_t room);
 
 _Static_assert(offsetof(mfc_reply, value) == 4, "four bytes stand before the value");
 _Static_assert(offsetof(mfc_fed, place) == 2 && offsetof(mfc_fed, frame_length) == sizeof(size_t),
@@ -469,13 +470,18 @@ static uint8_t an_address(void)
     return below(16) ? (uint8_t)below(20) : ends[below(sizeof ends)];
 }
 
+static uint32_t a_lease(void)
+{
+    return below(16) ? 1 + (uint32_t)below(30) : any() >> below(32);
+}
+
 /* One order on a table: mostly one that opens an entry, since all places are to be held now and then. */
 static uint8_t give_order(mfc_entry *table, size_t places)
 {
     static const uint16_t codes[] = {MFC_SFC6_SHUT_VALVE, MFC_SFC6_NORMAL_CONTROL, MFC_SFC6_POINT_BACK, 0x3FE4};
     uint8_t bus = (uint8_t)(below(32) ? below(2) : any()), kind = (uint8_t)(below(32) ? 1 + below(2) : any());
     uint8_t address = an_address();
-    uint32_t lease = below(16) ? 1 + (uint32_t)below(30) : any() >> below(32);
+    uint32_t lease = a_lease();
     switch (below(16)) {
     case 0:
         begin("mfc_board_close");
@@ -661,11 +667,42 @@ static void log_list(const uint8_t *file, size_t length, size_t skip, size_t roo
     take_back(rows);
 }
 
+/* The file is only read; places past the entries, and all of them after a refusal, are as they were. */
+static size_t log_replay(const uint8_t *file, size_t length, uint32_t lease, size_t room)
+{
+    begin("mfc_log_replay");
+    struct lent lent = lend(0, file, length);
+    struct lent entries = lend(1, NULL, room * PLACE);
+    mfc_listed listed = mfc_log_replay(lent.bytes, length, lease, places_of(entries), room);
+    if (listed.count > room || (listed.refusal != 0 && listed.count != 0)) {
+        fail("more than was lent, or entries beside a refusal");
+    }
+    for (size_t i = 0; i < listed.count; i++) {
+        mfc_entry entry = places_of(entries)[i];
+        if (entry.kind != MFC_ENTRY_CALIBRATION || entry.bus != MFC_BUS_SERIAL || entry.address > 254 || entry.left > lease) {
+            fail("an entry that no log has");
+        }
+    }
+    if (length > 0 && memcmp(lent.bytes, file, length) != 0) {
+        fail("a replay changed the file");
+    }
+    size_t used = listed.count * PLACE;
+    if (room > 0 && memcmp(entries.bytes + used, pattern + used, entries.length - used) != 0) {
+        fail("a replay changed room past its entries");
+    }
+    fold(listed.refusal);
+    fold(listed.count);
+    take_back(lent);
+    take_back(entries);
+    return listed.count;
+}
+
 static void read_log(const struct kept_log *log)
 {
     log_check(log->bytes, log->length);
     log_list(log->bytes, log->length, 0, (LOG_RECORDS + 1) * MFC_LOG_ROW);
     log_list(log->bytes, log->length, below(LOG_RECORDS + 1), below(12));
+    log_replay(log->bytes, log->length, a_lease(), below(3));
 }
 
 /* No file at all; records from the empty log on, with short room and other lengths between them; then bytes changed,
@@ -700,6 +737,52 @@ static void shift_log(void)
         }
         read_log(&other);
         log_append(&other, sizeof log.bytes, other.length);
+    }
+}
+
+/* A record that is taken, for what is replayed; its bytes in two records now and then. */
+static void log_bytes(struct kept_log *log, uint8_t kind, const uint8_t *bytes, size_t n)
+{
+    size_t first = below(4) == 0 ? below(n + 1) : n;
+    log->length = mfc_log_append(log->bytes, sizeof log->bytes, log->length, kind, bytes, first).length;
+    if (first < n) {
+        log->length = mfc_log_append(log->bytes, sizeof log->bytes, log->length, kind, bytes + first, n - first).length;
+    }
+}
+
+/* Temporary calibrations at some addresses, some of them closed again, marks and spoilt bytes between them; then in too little
+ * room, with leases out of range, and of files that are no logs. */
+static void replays(void)
+{
+    struct kept_log log = {.length = 0};
+    uint8_t frame[MFC_REPLY_ROOM];
+    size_t exchanges = below(3) ? below(9) : 28 + below(10);
+    log.length = mfc_log_empty(log.bytes, sizeof log.bytes).length;
+    for (size_t i = 0; i < exchanges; i++) {
+        uint8_t address = (uint8_t)(100 + i);
+        uint8_t request = below(8) ? MFC_REQUEST_VOLATILE_CALIBRATION : MFC_REQUEST_SET_CALIBRATION;
+        address = request == MFC_REQUEST_SET_CALIBRATION && i > 0 ? (uint8_t)(address - 1) : address;
+        size_t n = mfc_write_request(address, request, 1, frame, sizeof frame).length;
+        log_bytes(&log, MFC_LOG_REQUEST, frame, n);
+        n = mfc_write_reply(address, request, 1, MFC_REPLY_ACKNOWLEDGED, 0, NULL, 0, any() & 1, frame, sizeof frame).length;
+        if (below(40) == 0) {
+            frame[below(n)] = wire_byte();
+        }
+        log_bytes(&log, MFC_LOG_REPLY, frame, n);
+        if (below(8) == 0) {
+            log.length = mfc_log_append(log.bytes, sizeof log.bytes, log.length, MFC_LOG_SILENCE, NULL, 0).length;
+        }
+    }
+    size_t count = log_replay(log.bytes, log.length, 1 + (uint32_t)below(9), MFC_BOARD_PLACES);
+    log_replay(log.bytes, log.length, 65535, count);
+    log_replay(log.bytes, log.length, a_lease(), count > 0 ? count - 1 : 0);
+    log_replay(log.bytes, log.length, a_lease(), below(MFC_BOARD_PLACES + 3));
+    log_replay(log.bytes, log.length, 0, below(MFC_BOARD_PLACES + 3));
+    log_replay(log.bytes, below(log.length), a_lease(), below(MFC_BOARD_PLACES + 3));
+    log_replay(log.bytes, 0, a_lease(), below(2));
+    for (int spoilt = 0; spoilt < 3; spoilt++) {
+        log.bytes[below(log.length)] = wire_byte();
+        log_replay(log.bytes, log.length, a_lease(), below(MFC_BOARD_PLACES + 3));
     }
 }
 
@@ -838,12 +921,15 @@ static void one_round(void)
     words(below(64), below(64), 0);
     i2c_commands();
     numbers();
-    /* These two make more calls than all the rest, so not every round has them. */
+    /* These make more calls than all the rest, so not every round has them. */
     if (below(4) == 0) {
         board();
     }
     if (below(8) == 0) {
         shift_log();
+    }
+    if (below(8) == 0) {
+        replays();
     }
 }
 

@@ -150,4 +150,5 @@ pub trait Interface {
     fn log_append(&self, file: &mut [u8], length: usize, kind: u8, body: &[u8]) -> Written;
     fn log_check(&self, file: &[u8]) -> Words;
     fn log_list(&self, file: &[u8], skip: usize, rows: &mut [u16]) -> Words;
+    fn log_replay(&self, file: &[u8], lease: u32, entries: &mut [Entry]) -> Listed;
 }

@@ -59,6 +59,7 @@ extern "C" {
     fn mfc_log_append(file: *mut u8, room: usize, length: usize, kind: u8, body: *const u8, n: usize) -> Written;
     fn mfc_log_check(file: *const u8, length: usize) -> Words;
     fn mfc_log_list(file: *const u8, length: usize, skip: usize, rows: *mut u16, room: usize) -> Words;
+    fn mfc_log_replay(file: *const u8, length: usize, lease: u32, entries: *mut Entry, room: usize) -> Listed;
 }
 
 /// The library; an empty slice goes over as NULL where that is asked for, else as a pointer that must not be followed.
@@ -214,5 +215,9 @@ impl Interface for Library {
 
     fn log_list(&self, file: &[u8], skip: usize, rows: &mut [u16]) -> Words {
         unsafe { mfc_log_list(self.read(file), file.len(), skip, self.write(rows), rows.len()) }
+    }
+
+    fn log_replay(&self, file: &[u8], lease: u32, entries: &mut [Entry]) -> Listed {
+        unsafe { mfc_log_replay(self.read(file), file.len(), lease, self.write(entries), entries.len()) }
     }
 }

@@ -82,8 +82,8 @@ pub fn records(bytes: &[u8]) -> Result<Vec<(usize, Record<&[u8]>)>, u8> {
     Ok(all)
 }
 
-/// The records of a file, or the refusal of the check.
-fn read(file: &[u8]) -> Result<Vec<(usize, Record<&[u8]>)>, u8> {
+/// The records of a file, newest first, or the refusal of the check.
+pub fn read(file: &[u8]) -> Result<Vec<(usize, Record<&[u8]>)>, u8> {
     let (before, closing) = split_end(file, CLOSING).ok_or(20_u8)?;
     let (count, total) = (number(&closing[..4]), number(&closing[4..]));
     if total != before.len() || total > MOST {

@@ -4,7 +4,7 @@ use crate::cases::same;
 use crate::harness::*;
 use crate::interface::*;
 use crate::library::Library;
-use crate::log::{closed, file_of, records, Record, CLOSING, ROW};
+use crate::log::{closed, file_of, records, Record, CLOSING, ROW, SILENCE};
 use crate::reference::Reference;
 use crate::{call, case};
 use std::fmt::{self, Debug};
@@ -29,18 +29,33 @@ pub fn put_right(file: &[u8]) -> Vec<Vec<u8>> {
     told.into_iter().chain(counted).map(|count| closed(before, count)).collect()
 }
 
-/// A good file without some of its records.
+/// Neighbours of one kind in one record; each mark has its own.
+pub fn joined<B: AsRef<[u8]>>(records: &[Record<B>]) -> Vec<Record<Vec<u8>>> {
+    let mut all: Vec<Record<Vec<u8>>> = Vec::new();
+    for (kind, bytes) in records {
+        match all.last_mut() {
+            Some((last, body)) if *last == *kind && *kind != SILENCE => body.extend(bytes.as_ref()),
+            _ => all.push((*kind, bytes.as_ref().to_vec())),
+        }
+    }
+    all
+}
+
+/// A good file with its records joined, and without some of them.
 fn fewer_records(file: &[u8]) -> Vec<Vec<u8>> {
     let before = &file[..file.len().saturating_sub(CLOSING)];
     let newest_first = records(before).unwrap_or_default();
     let all: Vec<Record<&[u8]>> = newest_first.into_iter().rev().map(|(_, record)| record).collect();
-    without_parts(&all).iter().map(|fewer| file_of(fewer)).collect()
+    let without = without_parts(&all);
+    let mut files = vec![file_of(&joined(&all))];
+    files.extend(without.iter().map(|fewer| file_of(fewer)));
+    files
 }
 
 impl Smaller for File {
     fn smaller(&self) -> Vec<File> {
         let plain: Vec<Vec<u8>> = Hex(self.0.clone()).smaller().into_iter().map(|hex| hex.0).collect();
-        let right = plain.iter().flat_map(|file| put_right(file)).chain(fewer_records(&self.0));
+        let right = fewer_records(&self.0).into_iter().chain(plain.iter().flat_map(|file| put_right(file)));
         // What is put right must still come nearer to the smallest: shorter, or of a smaller sum before its last eight.
         let size = |file: &[u8]| {
             let before = &file[..file.len().saturating_sub(CLOSING)];

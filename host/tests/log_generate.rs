@@ -97,10 +97,16 @@ fn damage_bytes(random: &mut Random, file: &[u8]) -> Vec<u8> {
     }
 }
 
-/// A file of good records and a few damages, its closing bytes often put right again.
+/// A file of good records and a few damages.
 pub fn damaged_file(random: &mut Random, most: usize) -> Vec<u8> {
     let n = random.between(1, most);
     let list = records_of(random, n);
+    damaged(random, &list)
+}
+
+/// The file of these records, one at least, and a few damages, its closing bytes often put right again.
+pub fn damaged(random: &mut Random, list: &[Record<Vec<u8>>]) -> Vec<u8> {
+    let n = list.len();
     let mut parts: Vec<Vec<u8>> = list.iter().map(|(kind, body)| record_bytes(*kind, body)).collect();
     let damages = random.pick(&[1, 1, 1, 2, 3]);
     let of_trailers = random.below(damages + 1);

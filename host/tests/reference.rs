@@ -7,6 +7,7 @@
 use crate::board;
 use crate::interface::*;
 use crate::log;
+use crate::replay;
 
 /// The number of the first condition that holds, 0 where none does.
 fn first(conditions: &[(u8, bool)]) -> u8 {
@@ -182,13 +183,18 @@ pub fn judged(kind: Kind, raw: &[u8]) -> Item {
 
 /// The items of a whole stream: each pair of neighbouring cuts (7E or mark) that a 7E opens and that is not empty.
 pub fn items(kind: Kind, events: &[Event]) -> Vec<Item> {
+    items_at(kind, events).into_iter().map(|(_, item)| item).collect()
+}
+
+/// The same, each after the place of the 7E or mark at which the stream gains it.
+pub fn items_at(kind: Kind, events: &[Event]) -> Vec<(usize, Item)> {
     let is_cut = |event: &Event| matches!(event, Event::Mark | Event::Byte(DELIMITER));
     let cuts: Vec<usize> = (0..events.len()).filter(|&at| is_cut(&events[at])).collect();
     let stretches = cuts.windows(2).filter(|pair| events[pair[0]] != Event::Mark && pair[1] > pair[0] + 1);
     stretches
         .map(|pair| match events[pair[1]] {
-            Event::Mark => Item::Refused(9, 0),
-            Event::Byte(_) => judged(kind, &raw_bytes(&events[pair[0] + 1..pair[1]])),
+            Event::Mark => (pair[1], Item::Refused(9, 0)),
+            Event::Byte(_) => (pair[1], judged(kind, &raw_bytes(&events[pair[0] + 1..pair[1]]))),
         })
         .collect()
 }
@@ -946,5 +952,9 @@ impl Interface for Reference {
 
     fn log_list(&self, file: &[u8], skip: usize, rows: &mut [u16]) -> Words {
         log::list(file, skip, rows)
+    }
+
+    fn log_replay(&self, file: &[u8], lease: u32, entries: &mut [Entry]) -> Listed {
+        replay::replay(file, lease, entries)
     }
 }
