@@ -1,4 +1,4 @@
-/* bench: the library beside plain C on the same jobs, and the stack that each exported function uses.
+/* bench: the library and both engines of its CRC beside plain C on the same jobs, and the stack that each exported function uses.
  *
  * The two take turns in short slices within one process, so that other load on the machine hits both, and medians are shown.
  * Before anything is timed, both must give the same answers on the bytes measured and on many others.
@@ -181,36 +181,31 @@ static void read_plain(void)
     sink = sum;
 }
 
+/* Both engines, of which mfc_crc takes one by the length: from a library of their own, since libmfc.a exports neither by itself. */
+uint8_t engine_plain(uint8_t start, const uint8_t *bytes, size_t n);
+uint8_t engine_table(uint8_t start, const uint8_t *bytes, size_t n);
+
+typedef uint8_t crc_call(uint8_t, const uint8_t *, size_t);
+
 static size_t crc_n, crc_row;
 
-static void crc_library(void)
+/* Laid into each of the five below, as feed_all is. */
+static inline void crc_all(crc_call *once)
 {
     size_t sum = 0;
 
     for (size_t i = 0; i < crc_row; i++)
-        sum += mfc_crc(0xFF, any_bytes + i, crc_n);
+        sum += once(0xFF, any_bytes + i, crc_n);
     sink = sum;
 }
 
-static void crc_plain(void)
-{
-    size_t sum = 0;
+static void crc_library(void) { crc_all(mfc_crc); }
+static void crc_engine_plain(void) { crc_all(engine_plain); }
+static void crc_engine_table(void) { crc_all(engine_table); }
+static void crc_plain(void) { crc_all(plain_crc); }
+static void crc_folded(void) { crc_all(plain_crc_folded); }
 
-    for (size_t i = 0; i < crc_row; i++)
-        sum += plain_crc(0xFF, any_bytes + i, crc_n);
-    sink = sum;
-}
-
-static void crc_folded(void)
-{
-    size_t sum = 0;
-
-    for (size_t i = 0; i < crc_row; i++)
-        sum += plain_crc_folded(0xFF, any_bytes + i, crc_n);
-    sink = sum;
-}
-
-static uint16_t words[3];
+static uint16_t words[3], row_of_numbers[3 * ROW];
 static uint8_t row_of_words[9 * ROW];
 
 static void words_library(void)
@@ -237,6 +232,67 @@ static void words_folded(void)
 
     for (size_t i = 0; i < ROW; i++)
         sum += plain_read_words_folded(0xFF, row_of_words + 9 * i, 9, words, 3).count + words[2];
+    sink = sum;
+}
+
+/* The numbers of the words that are read. */
+static void lay_numbers(void)
+{
+    for (size_t i = 0; i < 3 * ROW; i++)
+        row_of_numbers[i] = (uint16_t)(row_of_words[3 * i] << 8 | row_of_words[3 * i + 1]);
+}
+
+static void write_words_library(void)
+{
+    size_t sum = 0;
+
+    for (size_t i = 0; i < ROW; i++)
+        sum += mfc_write_words(MFC_START_SFC6, row_of_numbers + 3 * i, 3, out, sizeof out).length + out[8];
+    sink = sum;
+}
+
+static void write_words_plain(void)
+{
+    size_t sum = 0;
+
+    for (size_t i = 0; i < ROW; i++)
+        sum += plain_write_words(0xFF, row_of_numbers + 3 * i, 3, out, sizeof out).length + out[8];
+    sink = sum;
+}
+
+static void write_words_folded(void)
+{
+    size_t sum = 0;
+
+    for (size_t i = 0; i < ROW; i++)
+        sum += plain_write_words_folded(0xFF, row_of_numbers + 3 * i, 3, out, sizeof out).length + out[8];
+    sink = sum;
+}
+
+static void sfc6_library(void)
+{
+    size_t sum = 0;
+
+    for (size_t i = 0; i < ROW; i++)
+        sum += mfc_write_sfc6(MFC_SFC6_START_MIXTURE0, 500, out, sizeof out).length + out[4];
+    sink = sum;
+}
+
+static void sfc6_plain(void)
+{
+    size_t sum = 0;
+
+    for (size_t i = 0; i < ROW; i++)
+        sum += plain_write_sfc6(0x3650, 500, out, sizeof out).length + out[4];
+    sink = sum;
+}
+
+static void sfc6_folded(void)
+{
+    size_t sum = 0;
+
+    for (size_t i = 0; i < ROW; i++)
+        sum += plain_write_sfc6_folded(0x3650, 500, out, sizeof out).length + out[4];
     sink = sum;
 }
 
@@ -552,6 +608,14 @@ static void compare_texts(void)
         compare_bodies(20, 0xD0, 0, data, n);
 }
 
+static void compare_crc(uint8_t start, const uint8_t *bytes, size_t n)
+{
+    uint8_t crc = mfc_crc(start, bytes, n);
+
+    compare(crc == plain_crc(start, bytes, n) && crc == plain_crc_folded(start, bytes, n), "crc");
+    compare(crc == engine_plain(start, bytes, n) && crc == engine_table(start, bytes, n), "crc of an engine");
+}
+
 static void compare_words(uint8_t start, uint8_t *bytes)
 {
     for (size_t n = 0; n <= 9; n++)
@@ -571,6 +635,68 @@ static void compare_words(uint8_t start, uint8_t *bytes)
                 if (flip < 72)
                     bytes[flip / 8] = (uint8_t)(bytes[flip / 8] ^ 1u << flip % 8);
             }
+}
+
+/* What the library and both of plain C wrote; the first so many bytes are looked at, more than any of them may write. */
+#define LOOKED_AT 16
+static struct { uint8_t library[LOOKED_AT], plain[LOOKED_AT], folded[LOOKED_AT]; } wrote;
+
+static void compare_wrote(mfc_written a, struct plain_written b, struct plain_written c, const char *what)
+{
+    compare(a.refusal == b.refusal && a.length == b.length && memcmp(wrote.library, wrote.plain, LOOKED_AT) == 0
+            && a.refusal == c.refusal && a.length == c.length && memcmp(wrote.library, wrote.folded, LOOKED_AT) == 0, what);
+}
+
+static void compare_write_words(uint8_t start, const uint16_t *numbers, size_t n, size_t room)
+{
+    memset(&wrote, 0xAA, sizeof wrote);
+    compare_wrote(mfc_write_words(start, numbers, n, wrote.library, room),
+                  plain_write_words(start, numbers, n, wrote.plain, room),
+                  plain_write_words_folded(start, numbers, n, wrote.folded, room), "write words");
+}
+
+static void compare_sfc6(uint16_t code, uint32_t concentration, size_t room)
+{
+    memset(&wrote, 0xAA, sizeof wrote);
+    compare_wrote(mfc_write_sfc6(code, concentration, wrote.library, room),
+                  plain_write_sfc6(code, concentration, wrote.plain, room),
+                  plain_write_sfc6_folded(code, concentration, wrote.folded, room), "write SFC6 command");
+}
+
+/* Every room and start value, every word, and the words measured. */
+static void compare_written_words(void)
+{
+    for (unsigned start = 0; start < 256; start++)
+        for (size_t n = 0; n <= 4; n++)
+            for (size_t room = 0; room <= 14; room++)
+                compare_write_words((uint8_t)start, row_of_numbers + start % ROW, n, room);
+    for (unsigned i = 0; i < 65536; i++) {
+        uint16_t number = (uint16_t)i;
+
+        compare_write_words(0xFF, &number, 1, 3);
+        compare_write_words(0x00, &number, 1, 3);
+    }
+    for (size_t i = 0; i < ROW; i++)
+        compare_write_words(0xFF, row_of_numbers + 3 * i, 3, LOOKED_AT);
+}
+
+/* Every code, every concentration and beyond, and those whose low bits alone would be good. */
+static void compare_commands(void)
+{
+    static const uint16_t codes[] = { 0xE102, 0xE000, 0xE17D, 0x3650, 0x365B, 0x3FEF, 0x3F6E, 0x3651 };
+    static const uint32_t beyond[] = { 65535, 65536, 65536 + 500, 0x80000000, 0x800001F4, 0xFFFFFFFF };
+
+    for (unsigned code = 0; code < 65536; code++) {
+        compare_sfc6((uint16_t)code, 500, 5);
+        compare_sfc6((uint16_t)code, 1001, 1);
+    }
+    for (size_t c = 0; c < sizeof codes / sizeof codes[0]; c++)
+        for (size_t room = 0; room <= 6; room++) {
+            for (uint32_t concentration = 0; concentration <= 1100; concentration++)
+                compare_sfc6(codes[c], concentration, room);
+            for (size_t i = 0; i < sizeof beyond / sizeof beyond[0]; i++)
+                compare_sfc6(codes[c], beyond[i], room);
+        }
 }
 
 static void compare_all(void)
@@ -603,19 +729,22 @@ static void compare_all(void)
     compare_texts();
     for (size_t i = 0; i < POLLS; i++)
         compare_read_reply(polls[i].address, polls[i].request, 0, polls[i].body, polls[i].length);
-    for (size_t n = 0; n <= 600; n++) {
-        uint8_t start = (uint8_t)n, crc = mfc_crc(start, any_bytes + n, n);
-
-        compare(crc == plain_crc(start, any_bytes + n, n) && crc == plain_crc_folded(start, any_bytes + n, n), "crc");
+    for (size_t n = 0; n <= 600; n++)
+        compare_crc((uint8_t)n, any_bytes + n, n);
+    compare_crc(0xFF, any_bytes, TRAFFIC);
+    for (size_t i = 0; i < ROW; i++) {
+        compare_crc(0xFF, any_bytes + i, 2);
+        compare_crc(0xFF, any_bytes + i, 9);
     }
-    compare(mfc_crc(0xFF, any_bytes, TRAFFIC) == plain_crc(0xFF, any_bytes, TRAFFIC), "crc");
     for (unsigned i = 0; i < 65536; i++) {
-        uint8_t start = (uint8_t)(i >> 8), byte = (uint8_t)i;
+        uint8_t byte = (uint8_t)i;
 
-        compare(mfc_crc(start, &byte, 1) == plain_crc_folded(start, &byte, 1), "crc");
+        compare_crc((uint8_t)(i >> 8), &byte, 1);
     }
     compare_words(0xFF, sfc6_words);
     compare_words(0x00, liquid_words);
+    compare_written_words();
+    compare_commands();
     compare_boards();
     compare_logs();
     compare_replays();
@@ -697,12 +826,21 @@ static void measure_feed(const char *name, const uint8_t *bytes, size_t n, size_
     measure(name, "byte", n, feed_library, plain);
 }
 
-static void measure_crc(const char *table, const char *folded, size_t n, size_t row)
+/* mfc_crc beside C of both kinds, and each engine beside C of its own kind. */
+static void measure_crc(const char *bytes, size_t n, size_t row)
 {
+    char name[64];
+
     crc_n = n;
     crc_row = row;
-    measure(table, "call", row, crc_library, crc_plain);
-    measure(folded, "call", row, crc_library, crc_folded);
+    (void)snprintf(name, sizeof name, "CRC of %s bytes, C with a table", bytes);
+    measure(name, "call", row, crc_library, crc_plain);
+    (void)snprintf(name, sizeof name, "CRC of %s bytes, C without a table", bytes);
+    measure(name, "call", row, crc_library, crc_folded);
+    (void)snprintf(name, sizeof name, "table engine, CRC of %s bytes, C with a table", bytes);
+    measure(name, "call", row, crc_engine_table, crc_plain);
+    (void)snprintf(name, sizeof name, "plain engine, CRC of %s bytes, C without a table", bytes);
+    measure(name, "call", row, crc_engine_plain, crc_folded);
 }
 
 static void measure_all(void)
@@ -730,11 +868,15 @@ static void measure_all(void)
     text = specials;
     measure("write the longest reply, 518 bytes", "frame", 1, reply_library, reply_plain);
     measure("read the replies of a polling round", "frame", POLLS, read_library, read_plain);
-    measure_crc("CRC of 2 bytes, C with a table", "CRC of 2 bytes, C without a table", 2, ROW);
-    measure_crc("CRC of 9 bytes, C with a table", "CRC of 9 bytes, C without a table", 9, ROW);
-    measure_crc("CRC of 65,536 bytes, C with a table", "CRC of 65,536 bytes, C without a table", TRAFFIC, 1);
+    measure_crc("2", 2, ROW);
+    measure_crc("9", 9, ROW);
+    measure_crc("65,536", TRAFFIC, 1);
     measure("read three words, C with a table", "call", ROW, words_library, words_plain);
     measure("read three words, C without a table", "call", ROW, words_library, words_folded);
+    measure("write three words, C with a table", "call", ROW, write_words_library, write_words_plain);
+    measure("write three words, C without a table", "call", ROW, write_words_library, write_words_folded);
+    measure("write an SFC6 concentration, C with a table", "call", ROW, sfc6_library, sfc6_plain);
+    measure("write an SFC6 concentration, C without a table", "call", ROW, sfc6_library, sfc6_folded);
     measure_boards();
     measure_logs();
     measure_replays();
@@ -876,7 +1018,7 @@ static void print_stacks(void)
     lay_type();
     (void)printf("deepest stack, with the caller's frame\n");
     for (size_t i = 0; i < sizeof uses / sizeof uses[0]; i++)
-        (void)printf("%-50s %10lu   bytes\n", uses[i].name, (unsigned long)stack_use(uses[i].use));
+        (void)printf("%-52s %10lu   bytes\n", uses[i].name, (unsigned long)stack_use(uses[i].use));
 }
 
 int main(int argc, char **argv)
@@ -897,6 +1039,7 @@ int main(int argc, char **argv)
     good_words(0xFF, sfc6_words, 3);
     good_words(0x00, liquid_words, 3);
     good_words(0xFF, row_of_words, 3 * ROW);
+    lay_numbers();
     lay_boards();
     lay_logs();
     broken_n = broken_traffic(broken, sizeof broken);

@@ -575,6 +575,11 @@ uint8_t plain_crc_folded(uint8_t start, const uint8_t *bytes, size_t n)
     return (uint8_t)crc;
 }
 
+static inline uint8_t word_crc(uint8_t start, uint8_t high, uint8_t low, int table)
+{
+    return table ? steps[steps[start ^ high] ^ low] : step_folded(step_folded(start ^ high) ^ low);
+}
+
 /* All words are checked before one is stored; the bytes are then at hand and the second pass costs little. */
 static inline struct plain_words read_words(const uint8_t *bytes, size_t n, uint16_t *words, size_t room, uint8_t start,
                                             int table)
@@ -588,8 +593,7 @@ static inline struct plain_words read_words(const uint8_t *bytes, size_t n, uint
     }
     for (size_t i = 0; i < count; i++) {
         const uint8_t *word = bytes + 3 * i;
-        uint8_t crc = table ? steps[steps[start ^ word[0]] ^ word[1]]
-                            : step_folded(step_folded(start ^ word[0]) ^ word[1]);
+        uint8_t crc = word_crc(start, word[0], word[1], table);
 
         if (crc != word[2]) {
             read.refusal = 17;
@@ -615,4 +619,83 @@ struct plain_words plain_read_words(uint8_t start, const uint8_t *bytes, size_t 
 struct plain_words plain_read_words_folded(uint8_t start, const uint8_t *bytes, size_t n, uint16_t *words, size_t room)
 {
     return read_words(bytes, n, words, room, start, 0);
+}
+
+static inline void put_word(uint8_t *out, unsigned word, uint8_t start, int table)
+{
+    uint8_t high = (uint8_t)(word >> 8), low = (uint8_t)word;
+
+    out[0] = high;
+    out[1] = low;
+    out[2] = word_crc(start, high, low, table);
+}
+
+/* No array has so many words of 2 bytes that 3 n runs over. */
+static inline struct plain_written write_words(const uint16_t *words, size_t n, uint8_t *out, size_t room, uint8_t start, int table)
+{
+    struct plain_written written = { 0, 0 };
+
+    if (n == 0) {
+        written.refusal = 16;
+        return written;
+    }
+    if (room < 3 * n) {
+        written.refusal = 1;
+        return written;
+    }
+    for (size_t i = 0; i < n; i++)
+        put_word(out + 3 * i, words[i], start, table);
+    written.length = 3 * n;
+    return written;
+}
+
+struct plain_written plain_write_words(uint8_t start, const uint16_t *words, size_t n, uint8_t *out, size_t room)
+{
+    return write_words(words, n, out, room, start, 1);
+}
+
+struct plain_written plain_write_words_folded(uint8_t start, const uint16_t *words, size_t n, uint8_t *out, size_t room)
+{
+    return write_words(words, n, out, room, start, 0);
+}
+
+static inline struct plain_written write_sfc6(uint16_t code, uint32_t concentration, uint8_t *out, size_t room, int table)
+{
+    struct plain_written written = { 0, 0 };
+    size_t length;
+
+    switch (code) {
+    case 0xE102: case 0xE000: case 0x3FEF: case 0x3F6E:
+        length = 2;
+        break;
+    case 0xE17D: case 0x3650: case 0x365B:
+        length = concentration <= 1000 ? 5 : 0;
+        break;
+    default:
+        length = 0;
+    }
+    if (length == 0) {
+        written.refusal = 12;
+        return written;
+    }
+    if (room < length) {
+        written.refusal = 1;
+        return written;
+    }
+    out[0] = (uint8_t)(code >> 8);
+    out[1] = (uint8_t)code;
+    if (length == 5)
+        put_word(out + 2, concentration, 0xFF, table);
+    written.length = length;
+    return written;
+}
+
+struct plain_written plain_write_sfc6(uint16_t code, uint32_t concentration, uint8_t *out, size_t room)
+{
+    return write_sfc6(code, concentration, out, room, 1);
+}
+
+struct plain_written plain_write_sfc6_folded(uint16_t code, uint32_t concentration, uint8_t *out, size_t room)
+{
+    return write_sfc6(code, concentration, out, room, 0);
 }

@@ -44,5 +44,9 @@ uint8_t plain_crc(uint8_t start, const uint8_t *bytes, size_t n);
 uint8_t plain_crc_folded(uint8_t start, const uint8_t *bytes, size_t n);
 struct plain_words plain_read_words(uint8_t start, const uint8_t *bytes, size_t n, uint16_t *words, size_t room);
 struct plain_words plain_read_words_folded(uint8_t start, const uint8_t *bytes, size_t n, uint16_t *words, size_t room);
+struct plain_written plain_write_words(uint8_t start, const uint16_t *words, size_t n, uint8_t *out, size_t room);
+struct plain_written plain_write_words_folded(uint8_t start, const uint16_t *words, size_t n, uint8_t *out, size_t room);
+struct plain_written plain_write_sfc6(uint16_t code, uint32_t concentration, uint8_t *out, size_t room);
+struct plain_written plain_write_sfc6_folded(uint16_t code, uint32_t concentration, uint8_t *out, size_t room);
 
 #endif

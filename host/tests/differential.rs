@@ -9,6 +9,7 @@ mod board_generate;
 mod board_sections;
 mod board_vectors;
 mod cases;
+mod engines;
 mod generate;
 mod harness;
 mod interface;
@@ -1109,6 +1110,7 @@ fn main() {
     replay_vectors::run(&mut report);
     report.section("checksum", checksum_section);
     report.section("crc", crc_section);
+    engines::run(&mut report);
     report.section("write a request", write_request_section);
     report.section("write a request: every room", rooms_section);
     report.section("write a request at a place", write_request_at_section);

@@ -56,6 +56,10 @@ mfc_words mfc_log_check(const uint8_t *file, size_t length);
 mfc_words mfc_log_list(const uint8_t *file, size_t length, size_t skip, uint16_t *rows, size_t room);
 mfc_listed mfc_log_replay(const uint8_t *file, size_t length, uint32_t lease, mfc_entry *entries, size_t room);
 
+/* Both engines of mfc_crc, from a library of their own. */
+uint8_t engine_plain(uint8_t start, const uint8_t *bytes, size_t n);
+uint8_t engine_table(uint8_t start, const uint8_t *bytes, size_t n);
+
 _Static_assert(offsetof(mfc_reply, value) == 4, "four bytes stand before the value");
 _Static_assert(offsetof(mfc_fed, place) == 2 && offsetof(mfc_fed, frame_length) == sizeof(size_t),
                "the place of a fault stands between the refusal and the lengths");
@@ -252,8 +256,13 @@ static void read_bodies(const uint8_t *contents, size_t n)
     struct lent body = lend(0, contents, n);
     begin("mfc_checksum");
     fold(mfc_checksum(body.bytes, n));
+    uint8_t start = (uint8_t)any();
     begin("mfc_crc");
-    fold(mfc_crc((uint8_t)any(), body.bytes, n));
+    fold(mfc_crc(start, body.bytes, n));
+    begin("engine_plain");
+    fold(engine_plain(start, body.bytes, n));
+    begin("engine_table");
+    fold(engine_table(start, body.bytes, n));
     begin("mfc_read_request");
     mfc_request request = mfc_read_request(body.bytes, n);
     fold(request.refusal);

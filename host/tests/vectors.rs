@@ -917,7 +917,7 @@ fn records(section: &mut Section) {
 // ---- Checksum, CRC, words, commands, registers
 
 /// Bytes, the CRC from 00, the CRC from FF.
-const CRCS: &[(&str, u8, u8)] = &[
+pub const CRCS: &[(&str, u8, u8)] = &[
     ("31 32 33 34 35 36 37 38 39", 0xA2, 0xF7),
     ("0E 00", 0x6D, 0xEC),
     ("BE EF", 0x13, 0x92),
@@ -948,7 +948,7 @@ const CRCS: &[(&str, u8, u8)] = &[
 ];
 
 /// The CRC of one byte from 00, for the bytes 00 to 0F and F0 to FF.
-const CRC_ROWS: [(u8, &str); 2] = [
+pub const CRC_ROWS: [(u8, &str); 2] = [
     (0x00, "00 31 62 53 C4 F5 A6 97 B9 88 DB EA 7D 4C 1F 2E"),
     (0xF0, "82 B3 E0 D1 46 77 24 15 3B 0A 59 68 FF CE 9D AC"),
 ];

@@ -2,14 +2,13 @@
 use mathlib.Core.Path.{_≡_, refl, sym, ap, _∙_}
 use mathlib.Core.List.{List, [], _∷_}
 use Prim.Native.Nat.{ℕ, _+_, _*_, _/_, _%_, _<_, _≤_}
-use native.Mathlib.Nat.{mod-lt}
-use native.Mathlib.Omega.{arith}
 use lib.Bits.{bitXor, xor-lt}
 use lib.ListN.{length, getD, drop}
 use Rattle.refusal.proofs.Rest.{rest-here, rest-end}
 use Rattle.refusal.proofs.Values.{same-at}
 use Rattle.i2c.specs.Crc.{bitStep, bitSteps, byteStep, crcOf}
 use Rattle.i2c.proofs.Xor.{xor-cancel}
+use Rattle.i2c.proofs.Linear.{steps-lt}
 
 -- the arithmetic of the code's eight bits at once
 abbrev over : ℕ → ℕ
@@ -27,14 +26,10 @@ steps-back : (x : ℕ) → x < 256 → bitSteps 119 (bitSteps 8 x) ≡ x
 unfolding bitStep bitSteps
 steps-back = same-at 256 (λ x. bitSteps 119 (bitSteps 8 x)) (λ x. x) refl
 
-steps-lt : (x : ℕ) → x < 256 → bitSteps 8 x < 256
-unfolding bitStep bitSteps
-steps-lt x h = rw (same-at 256 (bitSteps 8) (λ x. bitSteps 8 x % 256) refl x h) (mod-lt (bitSteps 8 x) (omega arith))
-
 module _ (c b : ℕ) (hc : c < 256) (hb : b < 256) where
-  byte-lt : byteStep c b < 256
+  pub byte-lt : byteStep c b < 256
   unfolding byteStep
-  byte-lt = steps-lt (bitXor c b) (xor-lt 8 c b hc hb)
+  byte-lt = steps-lt 8 (bitXor c b) (xor-lt 8 c b hc hb)
 
   byte-back : bitSteps 119 (byteStep c b) ≡ bitXor c b
   unfolding byteStep
@@ -49,13 +44,11 @@ unfolding crcOf
 start-one s t h l hs ht hh hl e =
     byte-one s t h hs ht hh (byte-one (byteStep s h) (byteStep t h) l (byte-lt s h hs hh) (byte-lt t h ht hh) hl e)
 
--- the byte at i, then the rest: what the register c gave, r gives one byte further
-pub crc-more : (c r : ℕ) (bs : List ℕ) (i : ℕ) {x : ℕ} → i < length bs → r ≡ byteStep c (getD bs i 0) → crcOf c (drop i bs) ≡ x
-    → crcOf r (drop (i + 1) bs) ≡ x
-unfolding crcOf
-crc-more c r bs i h e p = ap (λ (n : ℕ). crcOf n (drop (i + 1) bs)) e ∙ rw (rest-here bs i h) at p
+-- a CRC along a list, a step of the register for each byte: what the register c gave, r gives one byte further
+module _ (crc : ℕ → List ℕ → ℕ) (step : ℕ → ℕ → ℕ) (one : (c b : ℕ) (bs : List ℕ) → crc c (b ∷ bs) ≡ crc (step c b) bs) (none : (c : ℕ) → crc c [] ≡ c) where
+  pub further : (c r : ℕ) (bs : List ℕ) (i : ℕ) {x : ℕ} → i < length bs → r ≡ step c (getD bs i 0) → crc c (drop i bs) ≡ x → crc r (drop (i + 1) bs) ≡ x
+  further c r bs i h e p = ap (λ (n : ℕ). crc n (drop (i + 1) bs)) e ∙ sym (one c (getD bs i 0) (drop (i + 1) bs)) ∙ rw (rest-here bs i h) at p
 
--- nothing is left
-pub crc-end : (c : ℕ) (bs : List ℕ) (i : ℕ) {x : ℕ} → length bs ≤ i → crcOf c (drop i bs) ≡ x → c ≡ x
-unfolding crcOf
-crc-end c bs i h p = rw (rest-end bs i h) at p
+  -- nothing is left
+  pub at-end : (c : ℕ) (bs : List ℕ) (i : ℕ) {x : ℕ} → length bs ≤ i → crc c (drop i bs) ≡ x → c ≡ x
+  at-end c bs i h p = sym (none c) ∙ rw (rest-end bs i h) at p

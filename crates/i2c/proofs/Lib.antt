@@ -1,9 +1,12 @@
 pub mod CrcLaws
+pub mod Engines
+pub mod PairLaws
 pub mod WordLaws
 pub mod WordAnswers
 pub mod CommandAnswers
 pub mod RegisterLaws
 pub mod Xor
+pub mod Linear
 pub mod OneToOne
 pub mod RoundTrip
 pub mod Families

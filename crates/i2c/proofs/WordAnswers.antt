@@ -45,6 +45,24 @@ module _ (s : ℕ) (bs lent : List ℕ) where
         pub read-all : {last : List ℕ} → length bs / 3 ≤ length lent → last ≡ overlay lent 0 (wordsOf bs) → (served (length bs / 3), last) ≡ readWords s bs lent
         read-all h e = rw (e, ← words-count bs) (sym (emit-served (wordsOf bs) lent (rw words-count h)) ∙ stored)
 
+-- reading three words
+module _ (s : ℕ) (bs lent : List ℕ) (nine : length bs ≡ 9) (r : Checked) (checked : paperChecked r ≡ firstWrong s bs) where
+  some : length bs ≡ 0 → ⊥
+  some z = omega (arith, nine, z)
+
+  whole : length bs % 3 ≡ 0
+  whole = rw nine
+
+  pub three-wrong : (k : ℕ) → r ≡ WrongAt k → refuse (17 carrying k) lent ≡ readWords s bs lent
+  three-wrong = read-wrong s bs lent some whole r checked
+
+  module _ (good : r ≡ Good) where
+    pub three-no-room : length lent < 3 → refuse (number 1) lent ≡ readWords s bs lent
+    three-no-room h = read-no-room s bs lent some whole r checked good (rw nine h)
+
+    pub three-all : {last : List ℕ} → 3 ≤ length lent → last ≡ overlay lent 0 (wordsOf bs) → (served 3, last) ≡ readWords s bs lent
+    three-all h e = rw nine at (read-all s bs lent some whole r checked good (rw nine h) e)
+
 -- writing words
 pub write-none : (s : ℕ) (ws lent : List ℕ) → length ws ≡ 0 → refuse (number 16) lent ≡ writeWords s ws lent
 unfolding writeWords

@@ -70,19 +70,41 @@ module _ (s : ℕ) (bs : List ℕ) (a k r : ℕ) {x : Check} (e : r ≡ crcOf s 
 pub check-end : (s : ℕ) (bs : List ℕ) (a k : ℕ) {x : Check} → after k (firstWrong s (drop a bs)) ≡ x → length bs ≤ a + 2 → allGood ≡ x
 check-end s bs a k inv h = rw (none-wrong s (drop a bs) (short bs a h)) at inv
 
+-- three words, one after the other: r, u and v are their CRCs
+module _ (s : ℕ) (bs : List ℕ) (nine : length bs ≡ 9) (r : ℕ) (e : r ≡ crcOf s (getD bs 0 0 ∷ getD bs 1 0 ∷ [])) where
+  pub first-wrong : (r ≡ getD bs 2 0 → ⊥) → wrongAt 0 ≡ firstWrong s bs
+  first-wrong = check-wrong s bs 0 0 r e (after-none (firstWrong s bs)) (omega (arith, nine))
+
+  module _ (good : r ≡ getD bs 2 0) (u : ℕ) (f : u ≡ crcOf s (getD bs 3 0 ∷ getD bs 4 0 ∷ [])) where
+    past-first : after 1 (firstWrong s (drop 3 bs)) ≡ firstWrong s bs
+    past-first = check-more s bs 0 0 r e (after-none (firstWrong s bs)) (omega (arith, nine)) good
+
+    pub second-wrong : (u ≡ getD bs 5 0 → ⊥) → wrongAt 1 ≡ firstWrong s bs
+    second-wrong = check-wrong s bs 3 1 u f past-first (omega (arith, nine))
+
+    module _ (fine : u ≡ getD bs 5 0) (v : ℕ) (g : v ≡ crcOf s (getD bs 6 0 ∷ getD bs 7 0 ∷ [])) where
+      past-second : after 2 (firstWrong s (drop 6 bs)) ≡ firstWrong s bs
+      past-second = check-more s bs 3 1 u f past-first (omega (arith, nine)) fine
+
+      pub third-wrong : (v ≡ getD bs 8 0 → ⊥) → wrongAt 2 ≡ firstWrong s bs
+      third-wrong = check-wrong s bs 6 2 v g past-second (omega (arith, nine))
+
+      pub three-good : v ≡ getD bs 8 0 → allGood ≡ firstWrong s bs
+      three-good t = check-end s bs 9 3 (check-more s bs 6 2 v g past-second (omega (arith, nine)) t) (omega (arith, nine))
+
 -- the store of words: one more, at the end
 words-cons : (bs : List ℕ) (a : ℕ) → a + 2 < length bs → wordsOf (drop a bs) ≡ (getD bs a 0 * 256 + getD bs (a + 1) 0) ∷ wordsOf (drop (a + 3) bs)
 unfolding wordsOf
 words-cons bs a h = rw (three bs a h)
 
-pub words-room : (bs : List ℕ) (a k n : ℕ) → a + 2 < length bs → k + length (wordsOf (drop a bs)) ≤ n → k + 1 + length (wordsOf (drop (a + 3) bs)) ≤ n
-words-room bs a k n h p =
-    let q : k + suc (length (wordsOf (drop (a + 3) bs))) ≤ n = rw (words-cons bs a h) at p in
-    omega arith
-
-pub words-more : (bs out : List ℕ) (a k r : ℕ) {x : List ℕ} → a + 2 < length bs → r ≡ getD bs a 0 * 256 + getD bs (a + 1) 0
+words-more : (bs out : List ℕ) (a k r : ℕ) {x : List ℕ} → a + 2 < length bs → r ≡ getD bs a 0 * 256 + getD bs (a + 1) 0
     → sets out k (wordsOf (drop a bs)) ≡ x → sets (set out k r) (k + 1) (wordsOf (drop (a + 3) bs)) ≡ x
 words-more bs out a k r h e p = rw (add-one, e) (rw (words-cons bs a h) at p)
+
+-- the same, with the next places by their own names
+pub word-stored : (bs out : List ℕ) (a k r b n : ℕ) {x : List ℕ} → a + 2 < length bs → r ≡ getD bs a 0 * 256 + getD bs (a + 1) 0 → b ≡ a + 3 → n ≡ k + 1
+    → sets out k (wordsOf (drop a bs)) ≡ x → sets (set out k r) n (wordsOf (drop b bs)) ≡ x
+word-stored bs out a k r b n h e p q inv = rw (p, q) (words-more bs out a k r h e inv)
 
 pub words-end : (bs out : List ℕ) (a k : ℕ) {x : List ℕ} → length bs ≤ a + 2 → sets out k (wordsOf (drop a bs)) ≡ x → out ≡ x
 words-end bs out a k h p = rw (no-words (drop a bs) (short bs a h)) at p
@@ -107,7 +129,7 @@ pub overlay-sets : (vs l : List ℕ) → length vs ≤ length l → sets l 0 vs 
 unfolding overlay
 overlay-sets vs l h = sets-eq vs l 0 (omega arith)
 
--- how many
+-- how many, and that each has room
 pub words-count : (bs : List ℕ) → length (wordsOf bs) ≡ length bs / 3
 unfolding wordsOf
 words-count [] = refl
@@ -115,7 +137,20 @@ words-count (h ∷ []) = refl
 words-count (h ∷ l ∷ []) = refl
 words-count (h ∷ l ∷ c ∷ bs) = omega (arith, words-count bs)
 
+pub room : (bs out ws : List ℕ) (a k more : ℕ) → length (wordsOf bs) ≤ length out → a ≡ k * 3 → length ws ≡ length out → a + more * 3 + 2 < length bs
+    → k + more < length ws
+room bs out ws a k more h e f m = omega (arith, words-count bs, h, e, f, m)
+
 pub bytes-count : (s : ℕ) (ws : List ℕ) → length (bytesOf s ws) ≡ length ws * 3
 unfolding bytesOf wordBytes
 bytes-count s [] = refl
 bytes-count s (w ∷ ws) = omega (arith, bytes-count s ws)
+
+-- three words stored
+pub three-stored : (bs out : List ℕ) (r u v : ℕ) → length bs ≡ 9 → 3 ≤ length out → r ≡ getD bs 0 0 * 256 + getD bs 1 0 → u ≡ getD bs 3 0 * 256 + getD bs 4 0
+    → v ≡ getD bs 6 0 * 256 + getD bs 7 0 → set (set (set out 0 r) 1 u) 2 v ≡ overlay out 0 (wordsOf bs)
+three-stored bs out r u v nine h e f g =
+    words-end bs (set (set (set out 0 r) 1 u) 2 v) 9 3 (omega (arith, nine))
+    (words-more bs (set (set out 0 r) 1 u) 6 2 v (omega (arith, nine)) g
+    (words-more bs (set out 0 r) 3 1 u (omega (arith, nine)) f (words-more bs out 0 0 r (omega (arith, nine)) e refl)))
+    ∙ overlay-sets (wordsOf bs) out (omega (arith, words-count bs, nine, h))

@@ -1,14 +1,16 @@
 // Words, read and written: high byte, low byte, CRC.
 use crate::Stored;
-use crate::crc::byte_step;
+use crate::crc::steps;
+use crate::crc::table_step;
 use refusal::Refusal;
 ghost use mathlib.Core.Path.{_≡_};
 ghost use mathlib.Core.List.{[], _∷_};
-ghost use Prim.Native.Nat.{_+_, _*_, _/_, _%_, _≤_};
-ghost use lib.ListN.{length};
+ghost use Prim.Native.Nat.{_+_, _*_, _/_, _%_, _<_, _≤_};
+ghost use lib.ListN.{length, getD};
 ghost use Rattle.refusal.specs.Room.{overlay};
 ghost use Rattle.i2c.specs.Answer.{paperStored};
 ghost use Rattle.i2c.specs.Crc.{crcOf};
+ghost use Rattle.i2c.specs.Engines.{Steps};
 ghost use Rattle.i2c.specs.Word.{startOf, wordsOf, bytesOf, firstWrong, paperChecked, readWords, writeWords};
 
 // The start value of the CRC, liquid sensors.
@@ -49,11 +51,20 @@ pub(crate) fn low(word: u16) -> u8
     (word % 256) as u8
 }
 
+// The CRC of a word's two bytes, by the table.
+fn pair_by(table: &[u8; 256], start: u8, h: u8, l: u8) -> u8
+    requires { ⌜ Steps 8 (now table) ⌝ }
+    ensures { λ r. ⌜ r ≡ crcOf start (h ∷ l ∷ []) ⌝ }
+{
+    table_step(table, table_step(table, start, h), l)
+}
+
 // The CRC of a word's two bytes.
 pub(crate) fn pair_crc(start: u8, h: u8, l: u8) -> u8
     ensures { λ r. ⌜ r ≡ crcOf start (h ∷ l ∷ []) ⌝ }
 {
-    byte_step(byte_step(start, h), l)
+    let table = steps();
+    pair_by(&table, start, h, l)
 }
 
 fn joined(h: u8, l: u8) -> u16
@@ -62,14 +73,15 @@ fn joined(h: u8, l: u8) -> u16
     (h as u16) * 256 + (l as u16)
 }
 
-// Checks every word.
-fn check_words(start: u8, bytes: &[u8]) -> Checked
+// Checks every word by the table.
+fn check_by(table: &[u8; 256], start: u8, bytes: &[u8]) -> Checked
+    requires { ⌜ Steps 8 (now table) ⌝ }
     ensures { λ r. ⌜ paperChecked r ≡ firstWrong start (now (bytes .entry)) ⌝ }
 {
     let mut k = 0;
     let mut i = 0;
     while i + 2 < bytes.len() {
-        if pair_crc(start, bytes[i], bytes[i + 1]) != bytes[i + 2] {
+        if pair_by(table, start, bytes[i], bytes[i + 1]) != bytes[i + 2] {
             return Checked::WrongAt(k);
         }
         k += 1;
@@ -78,18 +90,81 @@ fn check_words(start: u8, bytes: &[u8]) -> Checked
     Checked::Good
 }
 
-// Stores the words that bytes hold.
+// Checks every word.
+fn check_words(start: u8, bytes: &[u8]) -> Checked
+    ensures { λ r. ⌜ paperChecked r ≡ firstWrong start (now (bytes .entry)) ⌝ }
+{
+    let table = steps();
+    check_by(&table, start, bytes)
+}
+
+// The number of the word at a place of the bytes.
+fn word_at(bytes: &[u8], at: usize) -> u16
+    requires { ⌜ at + 1 < length (now bytes) ⌝ }
+    ensures { λ r. ⌜ r ≡ getD (now (bytes .entry)) at 0 * 256 + getD (now (bytes .entry)) (at + 1) 0 ⌝ }
+{
+    joined(bytes[at], bytes[at + 1])
+}
+
+// Stores the words that bytes hold. Three a turn: one a turn the compiler makes a wide loop of, and every call of the reader, also one of
+// few words, saves the registers for it.
 fn store_words(bytes: &[u8], words: &mut [u16])
     requires { ⌜ length (wordsOf (now bytes)) ≤ length (now words) ⌝ }
     ensures { λ _. ⌜ now (words .exit) ≡ overlay (now (words .entry)) 0 (wordsOf (now (bytes .entry))) ⌝ }
 {
     let mut k = 0;
     let mut i = 0;
-    while i + 2 < bytes.len() {
-        words[k] = joined(bytes[i], bytes[i + 1]);
-        k += 1;
-        i += 3;
+    while i + 8 < bytes.len() {
+        words[k] = word_at(bytes, i);
+        words[k + 1] = word_at(bytes, i + 3);
+        words[k + 2] = word_at(bytes, i + 6);
+        k += 3;
+        i += 9;
     }
+    if bytes.len() <= i + 2 {
+        return;
+    }
+    words[k] = word_at(bytes, i);
+    if bytes.len() <= i + 5 {
+        return;
+    }
+    words[k + 1] = word_at(bytes, i + 3);
+}
+
+// Checks three words, without a loop.
+fn check_three(table: &[u8; 256], start: u8, bytes: &[u8]) -> Checked
+    requires { ⌜ Steps 8 (now table) ⌝ }
+    requires { ⌜ length (now bytes) ≡ 9 ⌝ }
+    ensures { λ r. ⌜ paperChecked r ≡ firstWrong start (now (bytes .entry)) ⌝ }
+{
+    if pair_by(table, start, bytes[0], bytes[1]) != bytes[2] {
+        return Checked::WrongAt(0);
+    }
+    if pair_by(table, start, bytes[3], bytes[4]) != bytes[5] {
+        return Checked::WrongAt(1);
+    }
+    if pair_by(table, start, bytes[6], bytes[7]) != bytes[8] {
+        return Checked::WrongAt(2);
+    }
+    Checked::Good
+}
+
+// Reads three words, as boards do each millisecond: a way of its own, since the loops take a third of the time beside the table.
+fn read_three(start: u8, bytes: &[u8], words: &mut [u16]) -> Stored
+    requires { ⌜ length (now bytes) ≡ 9 ⌝ }
+    ensures { λ r. ⌜ (paperStored r, now (words .exit)) ≡ readWords start (now (bytes .entry)) (now (words .entry)) ⌝ }
+{
+    let table = steps();
+    if let Checked::WrongAt(k) = check_three(&table, start, bytes) {
+        return Stored::Refused(Refusal::WrongCrc(k));
+    }
+    if words.len() < 3 {
+        return Stored::Refused(Refusal::NoRoom);
+    }
+    words[0] = word_at(bytes, 0);
+    words[1] = word_at(bytes, 3);
+    words[2] = word_at(bytes, 6);
+    Stored::Count(3)
 }
 
 // Reads words: every one is checked before any is stored.
@@ -97,6 +172,9 @@ pub fn read_words(start: u8, bytes: &[u8], words: &mut [u16]) -> Stored
     ensures { λ r. ⌜ (paperStored r, now (words .exit)) ≡ readWords start (now (bytes .entry)) (now (words .entry)) ⌝ }
 {
     let len = bytes.len();
+    if len == 9 {
+        return read_three(start, bytes, words);
+    }
     if len == 0 {
         return Stored::Refused(Refusal::BadWordCount);
     }
@@ -114,8 +192,9 @@ pub fn read_words(start: u8, bytes: &[u8], words: &mut [u16]) -> Stored
     Stored::Count(n)
 }
 
-// Stores the bytes of words.
-fn store_bytes(start: u8, words: &[u16], out: &mut [u8])
+// Stores the bytes of words by the table.
+fn store_by(table: &[u8; 256], start: u8, words: &[u16], out: &mut [u8])
+    requires { ⌜ Steps 8 (now table) ⌝ }
     requires { ⌜ length (now words) * 3 ≤ length (now out) ⌝ }
     ensures { λ _. ⌜ now (out .exit) ≡ overlay (now (out .entry)) 0 (bytesOf start (now (words .entry))) ⌝ }
 {
@@ -126,10 +205,19 @@ fn store_bytes(start: u8, words: &[u16], out: &mut [u8])
         let l = low(words[i]);
         out[o] = h;
         out[o + 1] = l;
-        out[o + 2] = pair_crc(start, h, l);
+        out[o + 2] = pair_by(table, start, h, l);
         i += 1;
         o += 3;
     }
+}
+
+// Stores the bytes of words.
+fn store_bytes(start: u8, words: &[u16], out: &mut [u8])
+    requires { ⌜ length (now words) * 3 ≤ length (now out) ⌝ }
+    ensures { λ _. ⌜ now (out .exit) ≡ overlay (now (out .entry)) 0 (bytesOf start (now (words .entry))) ⌝ }
+{
+    let table = steps();
+    store_by(&table, start, words, out);
 }
 
 // Writes words.

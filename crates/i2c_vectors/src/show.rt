@@ -20,6 +20,9 @@ pub(crate) fn crc(bytes: &[u8]) {
     text(b":");
     byte(i2c::crc::crc(LIQUID_START, bytes));
     byte(i2c::crc::crc(SFC6_START, bytes));
+    text(b", by the table");
+    byte(i2c::crc::table_crc(LIQUID_START, bytes));
+    byte(i2c::crc::table_crc(SFC6_START, bytes));
     text(b"\n");
 }
 

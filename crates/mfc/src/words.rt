@@ -16,6 +16,9 @@ ghost use Rattle.i2c.specs.Register.{editUser, editAdvanced};
 ghost use Rattle.mfc.specs.Answers.{counted, written, register, beside};
 ghost use Rattle.mfc.specs.Codes.{paperSfc6, paperLiquid, sfc6For, liquidFor, writeSfc6Code, writeLiquidCode};
 
+// From how many bytes on the CRC is quicker by the table, which is laid anew at each call, than without (docs/DECISIONS.md, 124).
+const TABLE_FROM: usize = 6;
+
 // A command of a code, or none.
 enum Sfc6Code {
     Listed(Sfc6),
@@ -32,7 +35,10 @@ enum LiquidCode {
 pub extern "C" fn mfc_crc(start: u8, bytes: &[u8]) -> u8
     ensures { λ r. ⌜ r ≡ crcOf start (now (bytes .entry)) ⌝ }
 {
-    i2c::crc::crc(start, bytes)
+    if bytes.len() < TABLE_FROM {
+        return i2c::crc::crc(start, bytes);
+    }
+    i2c::crc::table_crc(start, bytes)
 }
 
 // Reads n bytes as words, each a high byte, a low byte and their CRC from start (as in mfc_crc), and stores their numbers at the start of

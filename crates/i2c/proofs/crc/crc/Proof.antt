@@ -3,8 +3,8 @@ use borrow.Author.Needs.{needs}
 use Prim.Native.Nat.{_≤_, _-_}
 use mathlib.Core.Path.{_≡_, refl}
 use lib.ListN.{length, drop}
-use Rattle.i2c.specs.Crc.{crcOf}
-use Rattle.i2c.proofs.CrcLaws.{crc-more, crc-end}
+use Rattle.i2c.specs.Crc.{byteStep, crcOf}
+use Rattle.i2c.proofs.CrcLaws.{further, at-end}
 use Rattle.i2c.proofs.crc.crc.Statement.{statement}
 use Rattle.i2c.proofs.crc.crc.Tie as tie
 
@@ -18,10 +18,13 @@ loop-holds : tie.Need-loop-holds Inv-loop μ-loop
 loop-holds c = (search needs, refl)
 
 loop-again : tie.Need-loop-again Inv-loop μ-loop
-loop-again c = (search needs, crc-more _ _ _ _ (c .before .before .loop-test .taken) (c .byte-step .ensures) (c .before .before .before .loop .inv .1))
+unfolding crcOf
+loop-again c =
+    (search needs, further crcOf byteStep (λ c b bs. refl) (λ c. refl) _ _ _ _ (c .before .before .loop-test .taken) (c .byte-step .ensures) (c .before .before .before .loop .inv .1))
 
 returns : tie.Need-returns Inv-loop μ-loop
-returns c = crc-end _ _ _ (c .loop-test .left) (c .before .loop .inv .1)
+unfolding crcOf
+returns c = at-end crcOf byteStep (λ c b bs. refl) (λ c. refl) _ _ _ (c .loop-test .left) (c .before .loop .inv .1)
 
 pub crc-spec : {M : Type 1} → statement M
 crc-spec =
