@@ -1,5 +1,4 @@
-// The CRC-8 of the words, a byte at a time, by two engines that give the same: the plain one computes the eight bits of a byte, the other
-// looks them up.
+// The CRC-8 of the words by two engines that give the same: the plain one computes the eight bits of a byte, the other looks them up.
 ghost use mathlib.Core.Path.{_≡_};
 ghost use mathlib.Core.List.{[], _∷_};
 ghost use Rattle.i2c.specs.Crc.{bitSteps, byteStep, crcOf};
