@@ -149,7 +149,7 @@ fn check_three(table: &[u8; 256], start: u8, bytes: &[u8]) -> Checked
     Checked::Good
 }
 
-// Reads three words, as boards do each millisecond: a way of its own, since the loops take a third of the time beside the table.
+// Reads three words, as boards do each millisecond: a way of its own, which is quicker without a loop (docs/DECISIONS.md, 128).
 fn read_three(start: u8, bytes: &[u8], words: &mut [u16]) -> Stored
     requires { ⌜ length (now bytes) ≡ 9 ⌝ }
     ensures { λ r. ⌜ (paperStored r, now (words .exit)) ≡ readWords start (now (bytes .entry)) (now (words .entry)) ⌝ }
