@@ -30,7 +30,9 @@
 static uint8_t polling[TRAFFIC], escapes[TRAFFIC], damaged[TRAFFIC], broken[TRAFFIC], noise[TRAFFIC], any_bytes[TRAFFIC];
 static size_t polling_n, escapes_n, damaged_n, broken_n;
 static struct poll polls[POLLS];
-static uint8_t letters[255], specials[254];   /* 255 letters are one too many */
+/* Texts: letters, such with more and more special bytes among them, and special bytes alone. 255 letters are one too many. */
+#define TEXT 254
+static uint8_t letters[TEXT + 1], middle[TEXT], every_16[TEXT], every_4[TEXT], specials[TEXT];
 static uint8_t sfc6_words[9], liquid_words[9];
 
 volatile size_t sink;
@@ -152,15 +154,43 @@ static void setpoints_plain(void)
 }
 
 static const uint8_t *text = specials;
+static const struct { const char *job; const uint8_t *text; } replies[] = {
+    { "write a reply of 254 letters", letters },
+    { "write a reply, one special byte in the middle", middle },
+    { "write a reply, one special byte in every 16", every_16 },
+    { "write a reply, one special byte in every 4", every_4 },
+    { "write the longest reply, 518 bytes", specials },
+};
+#define REPLIES (sizeof replies / sizeof replies[0])
+
+/* Letters with a special byte at a first place and at every so many after it, each of the four in turn. */
+static void lay_text(uint8_t *bytes, size_t n, size_t first, size_t every)
+{
+    static const uint8_t special[4] = { 0x7E, 0x7D, 0x11, 0x13 };
+
+    for (size_t i = 0; i < n; i++)
+        bytes[i] = (uint8_t)('A' + i % 26);
+    for (size_t i = first, count = 0; i < n; i += every, count++)
+        bytes[i] = special[count % 4];
+}
+
+static void lay_texts(void)
+{
+    lay_text(letters, sizeof letters, sizeof letters, 1);
+    lay_text(middle, sizeof middle, sizeof middle / 2, sizeof middle);
+    lay_text(every_16, sizeof every_16, 15, 16);
+    lay_text(every_4, sizeof every_4, 3, 4);
+    lay_text(specials, sizeof specials, 0, 1);
+}
 
 static void reply_library(void)
 {
-    sink = mfc_write_reply(0x11, 20, 0, 14, 0, text, 254, 0, out, sizeof out).length;
+    sink = mfc_write_reply(0x11, 20, 0, 14, 0, text, TEXT, 0, out, sizeof out).length;
 }
 
 static void reply_plain(void)
 {
-    sink = plain_write_reply(0x11, 20, 0, 14, 0, text, 254, 0, out, sizeof out).length;
+    sink = plain_write_reply(0x11, 20, 0, 14, 0, text, TEXT, 0, out, sizeof out).length;
 }
 
 static void read_library(void)
@@ -524,19 +554,23 @@ static void compare_read_requests(void)
         compare_read_request(body, n);
 }
 
+/* Behind what is written every byte is as it was, also where both write too much: all of them where nothing is written. */
 static void compare_written_reply(uint8_t address, uint8_t request, uint8_t reply, uint32_t value, const uint8_t *bytes,
                                   size_t n, size_t room)
 {
-    static uint8_t one[LONGEST], other[LONGEST];
+    static uint8_t one[LONGEST], other[LONGEST], before[LONGEST];
     uint8_t bit7 = (uint8_t)(value % 3 == 1);
     mfc_written a;
     struct plain_written b;
 
+    memset(before, 0xAA, sizeof before);
     memset(one, 0xAA, sizeof one);
     memset(other, 0xAA, sizeof other);
     a = mfc_write_reply(address, request, 5, reply, value, bytes, n, bit7, one, room);
     b = plain_write_reply(address, request, 5, reply, value, bytes, n, bit7, other, room);
     compare(a.refusal == b.refusal && a.length == b.length && memcmp(one, other, sizeof one) == 0, "write reply");
+    compare(a.length <= room && memcmp(one + smaller(a.length, room), before, sizeof before - smaller(a.length, room)) == 0,
+            "behind a reply");
 }
 
 static void compare_read_reply(uint8_t address, uint8_t request, uint32_t value, const uint8_t *body, size_t n)
@@ -590,14 +624,49 @@ static void compare_replies(uint8_t request)
         }
 }
 
+/* A text with room to spare, with exactly what its frame needs, and with a byte less. */
+static void compare_text(uint8_t address, const uint8_t *bytes, size_t n)
+{
+    size_t length = plain_write_reply(address, 20, 5, 14, 0, bytes, n, 0, out, sizeof out).length;
+
+    compare(length >= n + 8 && length <= LONGEST, "length of a reply");
+    compare_written_reply(address, 20, 14, 0, bytes, n, LONGEST);
+    compare_written_reply(address, 20, 14, 0, bytes, n, length);
+    compare_written_reply(address, 20, 14, 0, bytes, n, length - 1);
+}
+
+/* Runs of plain bytes of every length from every place, and texts of which one in 2 to one in 128 bytes is special. */
+static void compare_runs(void)
+{
+    uint8_t data[TEXT];
+
+    for (size_t first = 0; first <= TEXT; first++)
+        for (size_t every = 1; every <= 40; every++) {
+            lay_text(data, sizeof data, first, every);
+            compare_text((uint8_t)(first % 255), data, sizeof data);
+            compare_text((uint8_t)(every * 6), data, first);
+        }
+    for (size_t i = 0; i < REPLIES; i++)
+        for (size_t n = 0; n <= TEXT; n++)
+            compare_text(0x11, replies[i].text, n);
+    for (uint32_t share = 2; share <= 128; share *= 2)
+        for (size_t turn = 0; turn < 1000; turn++) {
+            for (size_t i = 0; i < sizeof data; i++)
+                data[i] = any(share) == 0 ? specials[any(4)] : (uint8_t)(1 + any(255));
+            compare_text((uint8_t)any(255), data, any(TEXT + 1));
+        }
+}
+
 static void compare_texts(void)
 {
     uint8_t data[255];
 
     for (size_t room = 0; room <= LONGEST; room++) {
-        compare_written_reply(0x11, 20, 14, 0, specials, 254, room);
+        for (size_t i = 0; i < REPLIES; i++)
+            compare_written_reply(0x11, 20, 14, 0, replies[i].text, TEXT, room);
         compare_written_reply(3, 20, 14, 0, letters, room % 256, room);
     }
+    compare_runs();
     compare_written_reply(3, 20, 14, 0, NULL, 0, LONGEST);
     memcpy(data, letters, 254);
     data[100] = 0;
@@ -863,10 +932,10 @@ static void measure_all(void)
     measure("receive polling traffic, each answer after silence", "byte", polling_n, answers_library, answers_plain);
     measure("write the requests of a polling round", "frame", POLLS, requests_library, requests_plain);
     measure("write set setpoint", "frame", POLLS, setpoints_library, setpoints_plain);
-    text = letters;
-    measure("write a reply of 254 letters", "frame", 1, reply_library, reply_plain);
-    text = specials;
-    measure("write the longest reply, 518 bytes", "frame", 1, reply_library, reply_plain);
+    for (size_t i = 0; i < REPLIES; i++) {
+        text = replies[i].text;
+        measure(replies[i].job, "frame", 1, reply_library, reply_plain);
+    }
     measure("read the replies of a polling round", "frame", POLLS, read_library, read_plain);
     measure_crc("2", 2, ROW);
     measure_crc("9", 9, ROW);
@@ -1023,8 +1092,6 @@ static void print_stacks(void)
 
 int main(int argc, char **argv)
 {
-    static const uint8_t special[4] = { 0x7E, 0x7D, 0x11, 0x13 };
-
     if (argc != 2 || (strcmp(argv[1], "rows") != 0 && strcmp(argv[1], "stacks") != 0)) {
         (void)fprintf(stderr, "usage: bench rows | bench stacks\n");
         return 2;
@@ -1045,10 +1112,7 @@ int main(int argc, char **argv)
     broken_n = broken_traffic(broken, sizeof broken);
     noise_bytes(noise, sizeof noise);
     lay_replays();
-    for (size_t i = 0; i < sizeof letters; i++)
-        letters[i] = (uint8_t)('A' + i % 26);
-    for (size_t i = 0; i < sizeof specials; i++)
-        specials[i] = special[i % 4];
+    lay_texts();
     if (strcmp(argv[1], "stacks") == 0) {
         print_stacks();
         return 0;

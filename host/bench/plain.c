@@ -397,6 +397,64 @@ static inline uint8_t value_refusal(unsigned answers, uint32_t value)
     }
 }
 
+/* A text is looked at in blocks: of a fixed number of bytes and without a jump among them gcc takes all of them at once. */
+#define BLOCK 16
+
+static inline uint8_t sum_of(const uint8_t *bytes, size_t n)
+{
+    uint8_t sum = 0;
+
+    for (; n >= BLOCK; n -= BLOCK, bytes += BLOCK) {
+        uint8_t part = 0;
+
+        for (unsigned i = 0; i < BLOCK; i++)
+            part = (uint8_t)(part + bytes[i]);
+        sum = (uint8_t)(sum + part);
+    }
+    for (size_t i = 0; i < n; i++)
+        sum = (uint8_t)(sum + bytes[i]);
+    return sum;
+}
+
+static inline int is_plain(const uint8_t *block)
+{
+    int found = 0;
+
+    for (unsigned i = 0; i < BLOCK; i++)
+        found |= special(block[i]);
+    return !found;
+}
+
+static const uint8_t stuffed[256] = { [DELIMITER] = 1, [ESCAPE] = 1, [0x11] = 1, [0x13] = 1 };
+
+/* A text behind the frame so far, stuffed. Most hold no special byte: a run of plain bytes is copied in blocks, and the block in which it
+   ends goes byte by byte, where the table beats special(). To look for the end of each run and copy it by its length gains little where
+   runs are long and loses much where they are short. */
+static inline uint8_t *put_text(uint8_t *out, const uint8_t *text, size_t n)
+{
+    size_t at = 0;
+
+    while (n - at >= BLOCK) {
+        if (is_plain(text + at)) {
+            memcpy(out, text + at, BLOCK);
+            out += BLOCK;
+            at += BLOCK;
+            continue;
+        }
+        for (size_t stop = at + BLOCK; at < stop; at++) {
+            if (stuffed[text[at]]) {
+                *out++ = ESCAPE;
+                *out++ = text[at] ^ 0x20;
+            } else {
+                *out++ = text[at];
+            }
+        }
+    }
+    for (; at < n; at++)
+        out = put(out, text[at]);
+    return out;
+}
+
 static size_t count_stuffed(const uint8_t *bytes, size_t n)
 {
     size_t count = n;
@@ -446,26 +504,18 @@ struct plain_written plain_write_reply(uint8_t address, uint8_t request, uint32_
         head[4 + i] = (uint8_t)(reply_value >> (8 * (size - 1 - i)));
     for (unsigned i = 0; i < 4 + size; i++)
         sum = (uint8_t)(sum + head[i]);
+    sum = (uint8_t)(sum + sum_of(text, n));
 
     /* Count only where the frame might not fit. */
-    if (room < 2 * (data + 5) + 2) {
-        uint8_t whole = sum;
-
-        for (size_t i = 0; i < n; i++)
-            whole = (uint8_t)(whole + text[i]);
-        whole = (uint8_t)~whole;
-        if (3 + count_stuffed(head, 4 + size) + count_stuffed(text, n) + (answers == TEXT) + (size_t)special(whole) > room) {
-            written.refusal = 1;
-            return written;
-        }
+    if (room < 2 * (data + 5) + 2
+        && 3 + count_stuffed(head, 4 + size) + count_stuffed(text, n) + (answers == TEXT) + (size_t)special((uint8_t)~sum) > room) {
+        written.refusal = 1;
+        return written;
     }
     *end++ = DELIMITER;
     for (unsigned i = 0; i < 4 + size; i++)
         end = put(end, head[i]);
-    for (size_t i = 0; i < n; i++) {
-        sum = (uint8_t)(sum + text[i]);
-        end = put(end, text[i]);
-    }
+    end = put_text(end, text, n);
     if (answers == TEXT)
         *end++ = 0;
     end = put(end, (uint8_t)~sum);

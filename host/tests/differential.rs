@@ -25,6 +25,7 @@ mod replay_cases;
 mod replay_generate;
 mod replay_sections;
 mod replay_vectors;
+mod runs;
 mod vectors;
 
 use cases::*;
@@ -1119,6 +1120,7 @@ fn main() {
     report.section("read a request: every command and length", every_command_section);
     report.section("write a reply", write_reply_section);
     report.section("write a reply: every number", every_reply_section);
+    runs::run(&mut report);
     report.section("read a reply", read_reply_section);
     report.section("read a reply: every state and length", every_state_section);
     report.section("validity: every byte", every_validity_section);

@@ -229,17 +229,25 @@ static void write_request_at(size_t size, size_t start)
     take_back(buffer);
 }
 
-static mfc_written write_reply(uint8_t address, uint8_t request, uint8_t reply, size_t text_length, uint8_t *copy,
-                               size_t room)
+/* A text without a 00. Of some a fourth of the bytes is special, of others so few that runs of plain bytes are longer
+ * than any block in which they may be looked at. */
+static void text_bytes(uint8_t *bytes, size_t n)
 {
-    uint8_t contents[300];
-    begin("mfc_write_reply");
-    for (size_t i = 0; i < text_length; i++) {
-        contents[i] = wire_byte() | 1;
+    size_t share = below(2) ? 1 : 40;
+    for (size_t i = 0; i < n; i++) {
+        uint8_t byte = below(share) == 0 ? wire_byte() : (uint8_t)any();
+        bytes[i] = byte != 0 ? byte : 'A';
     }
+}
+
+/* The same text and address make the same frame, so that its length is also what it needs. */
+static mfc_written write_reply(uint8_t address, uint8_t request, uint8_t reply, const uint8_t *contents,
+                               size_t text_length, uint8_t *copy, size_t room)
+{
+    begin("mfc_write_reply");
     struct lent text = lend(0, contents, text_length);
     struct lent out = lend(1, NULL, room);
-    mfc_written written = mfc_write_reply(address, request, 1, reply, 1, text.bytes, text_length, any() & 1, out.bytes,
+    mfc_written written = mfc_write_reply(address, request, 1, reply, 1, text.bytes, text_length, address & 1, out.bytes,
                                           room);
     if (copy != NULL && written.refusal == 0) {
         memcpy(copy, out.bytes, written.length);
@@ -808,12 +816,16 @@ static void writers(uint8_t *frame, size_t *length)
     uint8_t expected = commands[request].reply;
     uint8_t address = (uint8_t)below(255);
     size_t text_length = below(4) ? below(12) : below(2) ? below(300) : 252 + below(5);
-    mfc_written reply = write_reply(address, request, expected, text_length, frame, MFC_REPLY_ROOM);
-    if (reply.refusal == 0) {
-        write_reply(address, request, expected, text_length, NULL, reply.length);
-        write_reply(address, request, expected, text_length, NULL, reply.length - 1);
+    uint8_t text[300];
+    text_bytes(text, text_length);
+    mfc_written reply = write_reply(address, request, expected, text, text_length, frame, MFC_REPLY_ROOM);
+    if (reply.refusal == 0
+        && (write_reply(address, request, expected, text, text_length, NULL, reply.length).refusal != 0
+            || write_reply(address, request, expected, text, text_length, NULL, reply.length - 1).refusal
+                != MFC_REFUSAL_NO_ROOM)) {
+        fail("another room than the frame's length is asked for");
     }
-    write_reply(address, request, (uint8_t)below(REPLIES + 2), text_length, NULL, below(40));
+    write_reply(address, request, (uint8_t)below(REPLIES + 2), text, text_length, NULL, below(40));
     *length = reply.length;
     if (below(2)) {
         *length = write_request(address, request, any(), frame, MFC_REQUEST_ROOM).length;

@@ -152,6 +152,14 @@ impl<T: Element> Lent<T> {
     }
 }
 
+impl Lent<u8> {
+    /// The same with every bit the other way round: a byte that is written as it was before in one is not in the other.
+    pub fn inverted(mut self) -> Lent<u8> {
+        self.memory.iter_mut().for_each(|byte| *byte = !*byte);
+        self
+    }
+}
+
 // ---- Cases
 
 /// A byte string that is printed in hex, 00*260 for a byte many times.

@@ -1,5 +1,6 @@
 -- The laws of the definitions in specs/, a file for each subject.
 pub mod Stuffing
+pub mod RunLaws
 pub mod Restuffed
 pub mod Fault
 pub mod Body

@@ -93,16 +93,6 @@ unfolding stuffByte
 size-by-ranges =
     same-at 256 (λ b. length (stuffByte b)) (λ b. cond {A = ℕ} (eqb (bitOr b 2) 0x13) 2 (cond (ltb b 0x7D) 1 (cond (ltb b 0x7F) 2 1))) refl
 
--- bytes that do not get longer are sent as they are
-pub stuff-same : (bytes : List ℕ) → length (stuff bytes) ≤ length bytes → stuff bytes ≡ bytes
-unfolding stuff
-stuff-same [] h = refl
-stuff-same (b ∷ bytes) h =
-    let l = length-append (stuffByte b) (stuff bytes) in
-    let one : length (stuffByte b) ≡ 1 = omega (arith, byte-short b .0, stuff-long bytes) in
-    let rest : length (stuff bytes) ≤ length bytes = omega arith in
-    rw (sent-by b false one, stuff-same bytes rest)
-
 -- a byte that is sent comes back, and the bytes after it stand where it ends
 byte-back : (place : ℕ) (bytes : List ℕ) (b : ℕ)
     → unstuffFrom place (stuffByte b ++ bytes) ≡ prepend b (unstuffFrom (place + length (stuffByte b)) bytes)

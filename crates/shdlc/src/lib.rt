@@ -1,4 +1,5 @@
 // Frames on the wire: checksum, byte stuffing, the checks of a body, and the writer of a frame from its parts.
+use crate::runs::put_runs;
 use refusal::Refusal;
 ghost use mathlib.Core.Path.{_≡_};
 ghost use mathlib.Core.Bool.{cond, not};
@@ -13,6 +14,8 @@ ghost use Rattle.shdlc.specs.Stuffing.{stuffByte, stuff};
 ghost use Rattle.shdlc.specs.Body.{shortest, longest, lengthPlace, checkBody};
 ghost use Rattle.shdlc.specs.Frame.{putAt, frameOf, writeFrame};
 ghost use Rattle.shdlc.specs.Paper.{paperChecked, paperWritten, writtenOf};
+
+pub mod runs;
 
 // Which frames are expected: requests (MOSI) or replies (MISO).
 pub enum Kind {
@@ -108,7 +111,7 @@ pub fn check_body(kind: Kind, body: &[u8]) -> Checked
 }
 
 // Whether b is sent after a 7D, with 20 hex added to it by exclusive or.
-fn is_escaped(b: u8) -> bool
+pub(crate) fn is_escaped(b: u8) -> bool
     ensures { λ r. ⌜ stuffByte b ≡ cond r (0x7D ∷ bitXor b 0x20 ∷ []) (b ∷ []) ⌝ }
 {
     // Two ranges and not four values: the compiler then tests many bytes at once (`has_escaped`).
@@ -227,7 +230,7 @@ fn extra(b: u8) -> u8
 }
 
 // Whether a byte is sent after a 7D. All bytes are looked at: without an early end the compiler takes many at once.
-fn has_escaped(bytes: &[u8]) -> bool
+pub(crate) fn has_escaped(bytes: &[u8]) -> bool
     ensures { λ r. ⌜ r ≡ ltb (length (now (bytes .entry))) (length (stuff (now (bytes .entry)))) ⌝ }
 {
     let mut found: u8 = 0;
@@ -239,29 +242,14 @@ fn has_escaped(bytes: &[u8]) -> bool
     found != 0
 }
 
-// Writes the bytes as they are from a place on.
-fn copy(out: &mut [u8], place: usize, bytes: &[u8])
-    requires { ⌜ place + length (now bytes) ≤ length (now out) ⌝ }
-    ensures { λ r. ⌜ now (out .exit) ≡ overlay (now (out .entry)) place (now (bytes .entry)) ⌝ }
-{
-    let mut i: usize = 0;
-    while i < bytes.len() {
-        out[place + i] = bytes[i];
-        i += 1;
-    }
-}
-
-// Writes a text as `put_stuffed` does. Most texts have no byte that is sent after a 7D: those are copied as they are.
+// Writes a text as `put_stuffed` does, by the runs of plain bytes in it.
 fn put_text(out: &mut [u8], place: usize, start: u8, bytes: &[u8]) -> Laid
     requires { ⌜ place + length (stuff (now bytes)) ≤ length (now out) ⌝ }
     ensures { λ r. ⌜ (r .place ≡ place + length (stuff (now (bytes .entry)))) × (r .total ≡ (start + sum (now (bytes .entry))) % 256) × (now (out .exit) ≡ overlay (now (out .entry)) place (stuff (now (bytes .entry)))) ⌝ }
 {
-    if has_escaped(bytes) {
-        return put_stuffed(out, place, start, bytes);
-    }
-    copy(out, place, bytes);
+    let end = put_runs(out, place, bytes);
     Laid {
-        place: place + bytes.len(),
+        place: end,
         total: sum_on(start, bytes),
     }
 }
@@ -322,7 +310,7 @@ fn is_short(first: &[u8], second: &[u8], third: &[u8], room: usize) -> bool
 }
 
 // Writes the frame of a body in three parts, without its checksum, at the start of the lent room, and answers its length; 0 where the room
-// is too short. The second part is the text, if the body has one.
+// is too short. The second part is the text, if the body has one: it goes by runs, the other two, of a few bytes, byte by byte.
 pub fn lay_parts(first: &[u8], second: &[u8], third: &[u8], out: &mut [u8]) -> usize
     ensures { λ r. ⌜ (writtenOf r, now (out .exit)) ≡ writeFrame (now (first .entry) ++ (now (second .entry) ++ now (third .entry))) (now (out .entry)) ⌝ }
 {

@@ -1,4 +1,4 @@
--- `shdlc::copy` meets its contract. The invariant: the bytes that are left, written from here on, make the whole. Assumes nothing.
+-- `shdlc::runs::copy` meets its contract. The invariant: the bytes that are left, written from here on, make the whole. Assumes nothing.
 use borrow.Author.Needs.{needs}
 use mathlib.Core.Path.{_≡_, refl, sym, ap, _∙_}
 use mathlib.Core.List.{List}
@@ -8,8 +8,8 @@ use native.Mathlib.Omega.{arith}
 use lib.ListN.{length, getD, drop, set, length-set}
 use Rattle.refusal.specs.Room.{overlay}
 use Rattle.refusal.proofs.Room.{write-here, write-end}
-use Rattle.shdlc.proofs.copy.Statement.{statement}
-use Rattle.shdlc.proofs.copy.Tie as tie
+use Rattle.shdlc.proofs.runs.copy.Statement.{statement}
+use Rattle.shdlc.proofs.runs.copy.Tie as tie
 
 more : (out l : List ℕ) (place i : ℕ) → i < length l → place + i < length out
     → overlay (set out (place + i) (getD l i 0)) (place + (i + 1)) (drop (i + 1) l) ≡ overlay out (place + i) (drop i l)
