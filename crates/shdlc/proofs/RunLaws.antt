@@ -3,7 +3,7 @@ use mathlib.Core.Path.{_≡_, refl, sym, ap, _∙_}
 use mathlib.Core.Bool.{Bool, true, false, cond, true≢false}
 use mathlib.Core.List.{List, [], _∷_, _++_}
 use mathlib.Core.Option.{Option, none, some}
-use Prim.Native.Nat.{ℕ, zero, suc, _+_, _-_, _≤_, _<_}
+use Prim.Native.Nat.{ℕ, zero, suc, _+_, _≤_, _<_}
 use native.Mathlib.Omega.{arith}
 use lib.ListN.{length, getD, take, drop, length-append, length-drop, take-append-drop}
 use lib.Seq.{drop-drop, take-take, length-take-le}
@@ -19,7 +19,7 @@ sent-row : (b : ℕ) (row : Option ℕ) → isRow row ≡ false → sent b row �
 sent-row b none h = refl
 sent-row b (some e) h = absurd (true≢false h)
 
-pub plain-sent : (b : ℕ) → isSpecial b ≡ false → stuffByte b ≡ b ∷ []
+plain-sent : (b : ℕ) → isSpecial b ≡ false → stuffByte b ≡ b ∷ []
 unfolding stuffByte
 plain-sent b h = sent-row b (rightOf escapes b) h
 
@@ -33,11 +33,11 @@ special-size b h = row-size b (rightOf escapes b) h
 
 -- the first byte decides whether there is a run
 module _ (b : ℕ) (bytes : List ℕ) where
-  pub run-none : isSpecial b ≡ true → runOf (b ∷ bytes) ≡ 0
+  run-none : isSpecial b ≡ true → runOf (b ∷ bytes) ≡ 0
   unfolding runOf
   run-none h = ap (λ (t : Bool). cond {A = ℕ} t 0 (1 + runOf bytes)) h
 
-  pub run-more : isSpecial b ≡ false → runOf (b ∷ bytes) ≡ suc (runOf bytes)
+  run-more : isSpecial b ≡ false → runOf (b ∷ bytes) ≡ suc (runOf bytes)
   unfolding runOf
   run-more h = ap (λ (t : Bool). cond {A = ℕ} t 0 (1 + runOf bytes)) h ∙ omega arith
 
@@ -65,7 +65,7 @@ run-starts l i h e =
     (λ s. omega (arith, ap runOf (rest-here l i h), run-more (getD l i 0) (drop (i + 1) l) s))
 
 -- bytes that do not get longer by stuffing are a run, and in others it ends
-pub run-whole : (bytes : List ℕ) → length (stuff bytes) ≤ length bytes → runOf bytes ≡ length bytes
+run-whole : (bytes : List ℕ) → length (stuff bytes) ≤ length bytes → runOf bytes ≡ length bytes
 unfolding stuff runOf
 run-whole [] h = refl
 run-whole (b ∷ bytes) h =
@@ -74,7 +74,7 @@ run-whole (b ∷ bytes) h =
     (λ s. absurd (omega (arith, special-size b s, stuff-long bytes)))
     (λ s. omega (arith, run-more b bytes s, run-whole bytes (omega (arith, byte-short b .0))))
 
-pub run-broken : (bytes : List ℕ) → length bytes < length (stuff bytes) → runOf bytes < length bytes
+run-broken : (bytes : List ℕ) → length bytes < length (stuff bytes) → runOf bytes < length bytes
 unfolding stuff
 run-broken [] h = absurd (omega arith)
 run-broken (b ∷ bytes) h =
@@ -132,7 +132,7 @@ module _ (l : List ℕ) (n w : ℕ) (fits : n + w ≤ length l) where
       omega (arith, block-size)
 
 -- stuffing a run is copying it
-pub run-copied : (bytes : List ℕ) → stuff (take (runOf bytes) bytes) ≡ take (runOf bytes) bytes
+run-copied : (bytes : List ℕ) → stuff (take (runOf bytes) bytes) ≡ take (runOf bytes) bytes
 unfolding stuff runOf
 run-copied [] = refl
 run-copied (b ∷ bytes) =
@@ -143,7 +143,7 @@ run-copied (b ∷ bytes) =
     ∙ ap (λ (l : List ℕ). l ++ stuff (take (runOf bytes) bytes)) (plain-sent b h)
     ∙ ap (λ (l : List ℕ). b ∷ l) (run-copied bytes) ∙ sym (ap (λ (n : ℕ). take n (b ∷ bytes)) (run-more b bytes h)))
 
-pub run-goes-on : (bytes : List ℕ) → stuff bytes ≡ take (runOf bytes) bytes ++ stuff (drop (runOf bytes) bytes)
+run-goes-on : (bytes : List ℕ) → stuff bytes ≡ take (runOf bytes) bytes ++ stuff (drop (runOf bytes) bytes)
 run-goes-on bytes =
     ap stuff (sym (take-append-drop (runOf bytes) bytes)) ∙ stuff-append (take (runOf bytes) bytes) (drop (runOf bytes) bytes)
     ∙ ap (λ (l : List ℕ). l ++ stuff (drop (runOf bytes) bytes)) (run-copied bytes)
@@ -198,4 +198,4 @@ run-ends (b ∷ bytes) h =
     ∙ run-ends bytes (omega (arith, run-more b bytes s)))
 
 pub runs : Runs
-runs = record { copied = run-copied; goes-on = run-goes-on; within = run-short; plain = run-plain; ends = run-ends }
+runs = record { special = special-size; copied = run-copied; goes-on = run-goes-on; within = run-short; plain = run-plain; ends = run-ends }

@@ -6,7 +6,7 @@ use mathlib.Core.Bool.{Bool, true, false, cond}
 use mathlib.Core.List.{List, [], _∷_, _++_}
 use mathlib.Core.Option.{Option, none, some}
 use lib.ListN.{length, getD, take, drop}
-use Rattle.shdlc.specs.Stuffing.{escapes, rightOf, stuff}
+use Rattle.shdlc.specs.Stuffing.{escapes, rightOf, stuffByte, stuff}
 
 -- a byte is special where it has a row in the table of escapes
 abbrev pub isRow : Option ℕ → Bool
@@ -22,6 +22,8 @@ runOf [] = 0
 runOf (b ∷ bytes) = cond (isSpecial b) 0 (1 + runOf bytes)
 
 pub record Runs : Type 0 where
+  -- a special byte is sent as two
+  pub special : (b : ℕ) → isSpecial b ≡ true → length (stuffByte b) ≡ 2
   -- stuffing a run is copying it
   pub copied : (bytes : List ℕ) → stuff (take (runOf bytes) bytes) ≡ take (runOf bytes) bytes
   pub goes-on : (bytes : List ℕ) → stuff bytes ≡ take (runOf bytes) bytes ++ stuff (drop (runOf bytes) bytes)
