@@ -1,4 +1,6 @@
 // The text of a handover board's list, in the words of the supervisory example.
+#![tactic(auto)]
+
 pub mod lease;
 
 ghost use Rattle.std.specs.Prelude.{◌≡◌, cond, ℕ, ◌+◌, ◌≤◌, ◌<◌, min, eqb, length, take};

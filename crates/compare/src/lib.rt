@@ -1,5 +1,7 @@
 // Two logs compared, record by record. The records are looked at from the newest on, as a log can be read, and each mark goes to its
 // place, so that the marks stand oldest first.
+#![tactic(auto)]
+
 ghost use Rattle.std.specs.Prelude.{◌≡◌, cond, ℕ, ◌+◌, ◌-◌, ◌≤◌, min, max, eqb, length, take, drop, replicate};
 ghost use Rattle.refusal.specs.Refusals.{served};
 ghost use Rattle.refusal.specs.Room.{overlay};
@@ -11,10 +13,10 @@ ghost use Rattle.compare.specs.Paper.{paper_compared};
 ghost use Rattle.compare.specs.Private.{marks_to};
 
 use crate::bytes::same_bytes_lem;
+use refusal::Refusal;
 use wire_log::Answer;
 use wire_log::oldest::{Found, back_over, newest};
 use wire_log::reader::check;
-use refusal::Refusal;
 
 pub mod bytes;
 

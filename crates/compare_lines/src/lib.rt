@@ -1,4 +1,6 @@
 // The text that the program compare prints of two logs.
+#![tactic(auto)]
+
 ghost use Rattle.std.specs.Prelude.{◌≡◌, ◌-◌, ◌≤◌, length};
 ghost use Rattle.wire_log.specs.Text.{window};
 ghost use Rattle.compare_lines.specs.Text.{line, compare_text};

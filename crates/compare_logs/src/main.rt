@@ -1,5 +1,7 @@
 // Prints the differences of the two shift logs that its arguments name, by record place from the oldest on, and the number of equal
 // places; where one is no log the one line of its refusal.
+#![tactic(auto)]
+
 ghost use Rattle.std.specs.Prelude.{◌≤◌, length};
 
 use files::Loaded;

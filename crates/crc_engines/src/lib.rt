@@ -1,5 +1,7 @@
 // Both engines of the CRC for C, one beside the other, for the tests and measurements of host/. No part of libmfc.a: there mfc_crc takes
 // the one that is quicker for the length.
+#![tactic(auto)]
+
 ghost use Rattle.std.specs.Prelude.{◌≡◌};
 ghost use Rattle.i2c.specs.Crc.{crc_of};
 

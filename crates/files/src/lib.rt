@@ -1,4 +1,6 @@
 // A file read whole into lent room.
+#![tactic(auto)]
+
 ghost use Rattle.std.specs.Prelude.{◌≤◌, length};
 
 // Whether an input is at its end.

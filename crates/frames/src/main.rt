@@ -1,4 +1,6 @@
 // Reads request-side bytes from standard input and prints one line for each item, and a last line with the number of bytes read.
+#![tactic(auto)]
+
 ghost use Rattle.std.specs.Prelude.{◌≡◌, ◌-◌, ◌≤◌, true, length};
 ghost use Rattle.receiver.specs.Record.{held, in_range};
 ghost use Rattle.frames.specs.Private.{ListsAll};

@@ -1,4 +1,6 @@
 // How the wires feed the handover board: what was accepted or acknowledged, as an order to it.
+#![tactic(auto)]
+
 ghost use Rattle.std.specs.Prelude.{◌≡◌};
 ghost use Rattle.replies.specs.Paper.{paper_read};
 ghost use Rattle.handover.specs.Wire.{accepted_by, order_of_reply, acknowledged_by, order_of_command, is_listed, order_by_code, order_by_reply};

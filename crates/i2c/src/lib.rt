@@ -1,4 +1,6 @@
 // I2C for two sensor families: CRC-8, words, command bytes and register fields.
+#![tactic(auto)]
+
 use refusal::Refusal;
 
 pub mod command;

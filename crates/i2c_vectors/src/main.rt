@@ -1,5 +1,7 @@
 // The vectors of the I2C papers: one line for each, in the order of src/table.rt. What each line must say stands in the file
 // stdout, which is written from the papers and never by this program.
+#![tactic(auto)]
+
 mod digits;
 mod show;
 mod table;

@@ -1,4 +1,6 @@
 // The lines that the program puts out of a stream's items.
+#![tactic(auto)]
+
 ghost use Rattle.std.specs.Prelude.{◌≡◌, true, ◌+◌, ◌-◌, ◌≤◌, min, length, get_or, take};
 ghost use Rattle.refusal.specs.Room.{overlay, emit};
 ghost use Rattle.refusal.specs.Refusals.{served, paper, is_placed};

@@ -12,10 +12,10 @@ ghost use Rattle.mfc.specs.Answers.{carried_by, written, counted, compared, regi
 use compare::Compared;
 use i2c::Stored;
 use i2c::register::Edited;
-use wire_log::Answer;
 use reading::{Quantity, Thousandths};
 use refusal::Refusal;
 use shdlc::Written;
+use wire_log::Answer;
 
 // What a writer answers.
 #[repr(C)]

@@ -1,5 +1,6 @@
 // The C interface: numbers and byte slices in and out, and no logic of its own. tools/header makes host/include/mfc.h of these files;
 // its first comment is the one that follows.
+#![tactic(auto)]
 
 // Frames, requests and replies of SFC6 mass flow controllers on SHDLC, words and commands of two sensor families on I2C, scaled
 // readings, the handover board, the shift log and its replay. No function keeps state or a pointer, or allocates. Each takes any numbers

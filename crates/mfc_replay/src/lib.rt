@@ -1,5 +1,7 @@
 // The replay for C, a library of its own beside crates/mfc: the compiler makes a function one with the exported function that calls it only
 // where that is its one caller, and here the receiver and the two readers of frames have another. tools/library puts both into one archive.
+#![tactic(auto)]
+
 ghost use Rattle.std.specs.Prelude.{◌≡◌};
 ghost use Rattle.board.specs.Listing.{numbered_list};
 ghost use Rattle.replay.specs.Replay.{replay};

@@ -1,4 +1,6 @@
 // The typed fields of a payload: big-endian numbers of 1, 2 or 4 bytes at a place, read and written, and a reader that holds the place.
+#![tactic(auto)]
+
 ghost use Rattle.std.specs.Prelude.{◌≡◌, ◌+◌, ◌^◌, ◌≤◌, ◌<◌, ltb, length, take, drop};
 ghost use Rattle.refusal.specs.Room.{overlay};
 ghost use Rattle.payload.specs.Field.{big, big_endian, bytes_in, taken_at, put_at, paper_u8, paper_u16, paper_u32, paper_placed};

@@ -1,4 +1,6 @@
 // Scaled readings: (raw - offset) / scale, in thousandths of the unit and in single precision.
+#![tactic(auto)]
+
 ghost use Rattle.std.specs.Prelude.{◌≡◌, cond, ◌+◌, ◌*◌, ◌/◌, ◌≤◌, ◌<◌, ◌^◌, pos, neg_ℤ, nat_abs, ◌-ℤ◌, ◌*ℤ◌};
 ghost use Rattle.reading.specs.Reading.{rounded, paper_thousandths, in_thousandths, paper_quantity, quantity};
 

@@ -1,4 +1,6 @@
 // A receiver of SHDLC frames: bytes and silence marks in, frames and refusals out.
+#![tactic(auto)]
+
 ghost use Rattle.std.specs.Prelude.{◌≡◌, false, cond, ◌&&◌, ◌||◌, List, [], ◌∷◌, ℕ, ◌≤◌, ◌<◌, ◌+◌, ◌-◌, min, ltb, eqb, length, get_or, take, drop, replicate};
 ghost use Rattle.std.proofs.Math.Option.{none, some};
 ghost use Rattle.std.specs.Int.Bits.{bit_xor};

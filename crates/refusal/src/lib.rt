@@ -1,4 +1,6 @@
 // The refusals: one named case for each number of document 01's table, and for each that document 02 adds.
+#![tactic(auto)]
+
 ghost use Rattle.std.specs.Prelude.{◌≡◌};
 ghost use Rattle.refusal.specs.Refusals.{number_of, place_of};
 

@@ -1,4 +1,6 @@
 // A log run through the receivers again: the board that its traffic leaves.
+#![tactic(auto)]
+
 ghost use Rattle.std.specs.Prelude.{◌≡◌, ◌++◌, ◌≤◌, length, take, drop};
 ghost use Rattle.refusal.specs.Refusals.{served};
 ghost use Rattle.receiver.specs.Record.{held, fresh};
@@ -12,10 +14,10 @@ ghost use Rattle.replay.specs.Private.{list_of, Gives, board_of};
 use crate::desk::{list_board, nothing_yet, refused_list};
 use crate::run::{Run, replay_newest};
 use board::listing::Sorted;
-use wire_log::Answer;
 use receiver::{Made, Mode, Receiver};
 use refusal::Refusal;
 use shdlc::Kind;
+use wire_log::Answer;
 
 pub mod desk;
 pub mod places;

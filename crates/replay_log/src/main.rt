@@ -1,5 +1,7 @@
 // Prints the handover board at the end of the shift log that its first argument names, with the lease that its second says; of a log or a
 // lease that is refused the one line of its number.
+#![tactic(auto)]
+
 use libc::{STDERR_FILENO, STDOUT_FILENO};
 
 fn print(file: &[u8], lease: u32) -> bool {

@@ -1,4 +1,6 @@
 // Replies of the SFC6 family, written and read.
+#![tactic(auto)]
+
 ghost use Rattle.std.specs.Prelude.{◌≡◌, true, false, cond, not, ◌+◌, ◌-◌, ◌^◌, ◌≤◌, ◌<◌, min, length, take};
 ghost use mathlib.Core.List.{[], ◌∷◌, ◌++◌, foldr};
 ghost use Rattle.refusal.specs.Refusals.{number, in_order};

@@ -1,4 +1,6 @@
 // Frames on the wire: checksum, byte stuffing, the checks of a body, and the writer of a frame from its parts.
+#![tactic(auto)]
+
 ghost use Rattle.std.specs.Prelude.{◌≡◌, cond, not, [], ◌∷◌, ◌++◌, ◌+◌, ◌-◌, ◌/◌, ◌%◌, ◌≤◌, ◌<◌, ltb, length};
 ghost use Rattle.std.specs.Int.Bits.{bit_xor};
 ghost use Rattle.refusal.specs.Room.{overlay};

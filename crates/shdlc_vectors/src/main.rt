@@ -1,5 +1,7 @@
 // The vectors of the SHDLC papers, run through the library. The table is the file stdin, a row a line; each row is put out again with
 // its answer behind it. What every line must say stands in the file stdout, which is written from the papers and never by this program.
+#![tactic(auto)]
+
 mod bytes;
 mod names;
 mod rows;

@@ -1,4 +1,6 @@
 // Prints the shift log that its argument names, newest first, a line a record; of a file that is no log the one line of its refusal.
+#![tactic(auto)]
+
 use libc::{STDERR_FILENO, STDOUT_FILENO};
 
 // Prints all of a log's text, part after part.

@@ -1,4 +1,6 @@
 // The shift log: what crossed the wire, on file. A log is read from its end, the newest record first.
+#![tactic(auto)]
+
 use refusal::Refusal;
 
 pub mod listing;
