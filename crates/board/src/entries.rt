@@ -2,14 +2,14 @@
 ghost use Rattle.std.specs.Prelude.{◌≡◌, ◌<◌, set, get_or};
 ghost use Rattle.board.specs.Entries.{bus_number, kind_number, free, has, is_kind, is_clear, empty};
 
-#[derive(Drop)]
+#[derive(Clone, Copy)]
 pub enum Bus {
     Serial,
     I2c,
 }
 
 // What an entry stands for.
-#[derive(Drop)]
+#[derive(Clone, Copy)]
 pub enum Kind {
     // A valve that 3FEF has shut.
     Valve,
@@ -18,7 +18,7 @@ pub enum Kind {
 }
 
 // A node: serial addresses are 0 to 254, those of I2C 0 to 127.
-#[derive(Drop)]
+#[derive(Clone, Copy)]
 pub struct Node {
     pub bus: Bus,
     pub address: u8,
@@ -26,7 +26,7 @@ pub struct Node {
 
 // A place of the handover board's table. In a free place all numbers are 0.
 #[repr(C)]
-#[derive(Drop)]
+#[derive(Clone, Copy)]
 pub struct Entry {
     // 0 for a free place, or one of MFC_ENTRY_*
     pub kind: u8,
@@ -41,7 +41,7 @@ pub struct Entry {
 }
 
 // The 32 places by value.
-#[derive(Drop)]
+#[derive(Clone, Copy)]
 pub struct Places {
     pub rows: [Entry; 32],
 }

@@ -11,7 +11,7 @@ use crate::survey::{Found, Target, find, is_valid};
 use refusal::Refusal;
 
 // An order to the board.
-#[derive(Drop)]
+#[derive(Clone, Copy)]
 pub enum Order {
     // An entry is opened for a lease of 1 to 65,535 polls, or its lease renewed.
     Open(Node, Kind, u32),
@@ -26,21 +26,21 @@ pub enum Order {
     Nothing,
 }
 
-#[derive(Drop)]
+#[derive(Clone, Copy)]
 pub enum Answer {
     Done,
     Refused(Refusal),
 }
 
 // The answer to an order, and the places after it.
-#[derive(Drop)]
+#[derive(Clone, Copy)]
 pub struct Changed {
     pub answer: Answer,
     pub places: Places,
 }
 
 // What is done to each of a run of places, polls apart.
-#[derive(Drop)]
+#[derive(Clone, Copy)]
 pub enum Step {
     // This entry stands there.
     Put(Entry),
@@ -51,7 +51,7 @@ pub enum Step {
 }
 
 // The answer to an order, and what it does: so many places are polled, and those from one on and before another have a step done.
-#[derive(Drop)]
+#[derive(Clone, Copy)]
 pub struct Plan {
     pub answer: Answer,
     pub polled: usize,

@@ -6,7 +6,7 @@ ghost use Rattle.board.specs.Private.{node_place, mark, nearer, found_in};
 use crate::entries::{Entry, Places, has_numbers, is_clear, is_kind};
 
 // An entry by its numbers.
-#[derive(Drop)]
+#[derive(Clone, Copy)]
 pub struct Target {
     pub kind: u8,
     pub bus: u8,
@@ -14,7 +14,7 @@ pub struct Target {
 }
 
 // The first place of a target and the first free one; the number of places where there is none.
-#[derive(Drop)]
+#[derive(Clone, Copy)]
 pub struct Found {
     pub held: usize,
     pub free: usize,

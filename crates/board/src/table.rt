@@ -12,7 +12,7 @@ use crate::orders::{Answer, Order, Step, plan_of, sought, sought_in, stepped, ti
 use crate::survey::{Found, Target, found_none, mark, nearer};
 
 // A plan with its answer as C gets it, the refusal's number and 0 for none.
-#[derive(Drop)]
+#[derive(Clone, Copy)]
 pub struct Acted {
     pub answer: u8,
     pub polled: usize,

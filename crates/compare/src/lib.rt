@@ -33,7 +33,7 @@ pub const ONLY_A: u8 = 2;
 pub const ONLY_B: u8 = 3;
 
 // What a comparison answers: how many places there are, and at how many of them the records are the same; or why not.
-#[derive(Drop)]
+#[derive(Clone, Copy)]
 pub enum Compared {
     Done(usize, usize),
     Refused(Refusal),

@@ -27,7 +27,7 @@ fn read_on(fd: i32) -> bool {
 }
 
 // How many bytes of a file there are in the room, and whether it was read to its end.
-#[derive(Drop)]
+#[derive(Clone, Copy)]
 pub struct Loaded {
     pub length: usize,
     pub ok: bool,

@@ -36,7 +36,7 @@ fn print(text: &[u8]) -> bool {
 }
 
 // Where the next line goes, and whether all that had to be written was.
-#[derive(Drop)]
+#[derive(Clone, Copy)]
 struct Room {
     place: usize,
     ok: bool,
@@ -58,7 +58,7 @@ fn make_room(out: &[u8], filled: usize) -> Room
 }
 
 // How far the listing is, where the room's text ends, and whether all that had to be written was.
-#[derive(Drop)]
+#[derive(Clone, Copy)]
 struct Shown {
     listing: Listing,
     filled: usize,

@@ -9,7 +9,7 @@ use crate::word::{SFC6_START, high, low, pair_crc};
 use refusal::Refusal;
 
 // The SFC6 commands that can be asked for. A concentration is in per mille, 0 to 1000.
-#[derive(Drop)]
+#[derive(Clone, Copy)]
 pub enum Sfc6 {
     // E102
     PointToTemperature,
@@ -28,7 +28,7 @@ pub enum Sfc6 {
 }
 
 // The liquid commands. A register write carries the register's new value.
-#[derive(Drop)]
+#[derive(Clone, Copy)]
 pub enum Liquid {
     // E2
     WriteUser(u16),

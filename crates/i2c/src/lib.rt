@@ -9,7 +9,7 @@ pub mod register;
 pub mod word;
 
 // What storing into a lent slice gives: how many places from its start were filled, or why none was.
-#[derive(Drop)]
+#[derive(Clone, Copy)]
 pub enum Stored {
     Count(usize),
     Refused(Refusal),

@@ -6,7 +6,7 @@ ghost use Rattle.i2c.specs.Register.{paper_edited, edit_user, edit_advanced};
 use refusal::Refusal;
 
 // The register with the field changed, or why not.
-#[derive(Drop)]
+#[derive(Clone, Copy)]
 pub enum Edited {
     Value(u16),
     Refused(Refusal),

@@ -16,14 +16,14 @@ pub const LIQUID_START: u8 = 0x00;
 // The start value of the CRC, SFC6.
 pub const SFC6_START: u8 = 0xFF;
 
-#[derive(Drop)]
+#[derive(Clone, Copy)]
 pub enum Family {
     Liquid,
     Sfc6,
 }
 
 // What a check of the words finds: all good, or the index of the first whose CRC is wrong.
-#[derive(Drop)]
+#[derive(Clone, Copy)]
 enum Checked {
     Good,
     WrongAt(usize),

@@ -6,11 +6,11 @@ ghost use Rattle.std.specs.Float.Ieee.{to_bits};
 ghost use Rattle.i2c_vectors.specs.Digits.{glyph};
 
 // Two hexadecimal digits, the high one first.
-#[derive(Drop)]
+#[derive(Clone, Copy)]
 pub struct Pair(pub u8, pub u8);
 
 // A number's sign and its size.
-#[derive(Drop)]
+#[derive(Clone, Copy)]
 pub struct SignAndSize {
     pub negative: bool,
     pub size: u64,

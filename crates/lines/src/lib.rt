@@ -34,7 +34,7 @@ fn put_decimal(out: &mut [u8], place: usize, n: u32) -> usize
 }
 
 // A number in decimal: so many of the first bytes.
-#[derive(Drop)]
+#[derive(Clone, Copy)]
 pub struct Numeral {
     pub bytes: [u8; 10],
     pub count: usize,
@@ -181,7 +181,7 @@ fn room_from(size: usize, place: usize) -> usize
     if size < place { 0 } else { size - place }
 }
 
-#[derive(Drop)]
+#[derive(Clone, Copy)]
 struct Listed {
     receiver: Receiver,
     taken: usize,
@@ -218,7 +218,7 @@ fn list(from: Receiver, store: &mut [u8], piece: &[u8], out: &mut [u8], place: u
 }
 
 // How far a listing is: the receiver, and how many bytes may still be read.
-#[derive(Drop)]
+#[derive(Clone, Copy)]
 pub struct Listing {
     pub receiver: Receiver,
     pub left: u32,
@@ -243,7 +243,7 @@ pub fn wanted(left: u32, size: usize) -> usize
 }
 
 // What a call of `fill` gives: how far the listing is, the bytes taken, and the place in the room after the text; or why it is refused.
-#[derive(Drop)]
+#[derive(Clone, Copy)]
 pub struct Filled {
     pub listing: Listing,
     pub taken: usize,

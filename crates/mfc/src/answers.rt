@@ -19,7 +19,7 @@ use wire_log::Answer;
 
 // What a writer answers.
 #[repr(C)]
-#[derive(Drop)]
+#[derive(Clone, Copy)]
 pub struct MfcWritten {
     // The refusal's number, 0 for none.
     pub refusal: u8,
@@ -29,7 +29,7 @@ pub struct MfcWritten {
 
 // What reading a request answers.
 #[repr(C)]
-#[derive(Drop)]
+#[derive(Clone, Copy)]
 pub struct MfcRequest {
     // The refusal's number, 0 for none.
     pub refusal: u8,
@@ -43,7 +43,7 @@ pub struct MfcRequest {
 
 // What reading a reply answers.
 #[repr(C)]
-#[derive(Drop)]
+#[derive(Clone, Copy)]
 pub struct MfcReply {
     // The refusal's number, 0 for none.
     pub refusal: u8,
@@ -63,7 +63,7 @@ pub struct MfcReply {
 
 // What feeding a receiver answers. Without a refusal, and with frame_length 0, there is no item yet.
 #[repr(C)]
-#[derive(Drop)]
+#[derive(Clone, Copy)]
 pub struct MfcFed {
     // The refusal's number, 0 for none.
     pub refusal: u8,
@@ -78,7 +78,7 @@ pub struct MfcFed {
 
 // What asking a receiver for its noise answers.
 #[repr(C)]
-#[derive(Drop)]
+#[derive(Clone, Copy)]
 pub struct MfcNoise {
     // The refusal's number, 0 for none.
     pub refusal: u8,
@@ -88,7 +88,7 @@ pub struct MfcNoise {
 
 // What reading words answers, and checking and listing a log.
 #[repr(C)]
-#[derive(Drop)]
+#[derive(Clone, Copy)]
 pub struct MfcWords {
     // The refusal's number, 0 for none.
     pub refusal: u8,
@@ -98,7 +98,7 @@ pub struct MfcWords {
 
 // What comparing two logs answers. With a refusal both numbers are 0.
 #[repr(C)]
-#[derive(Drop)]
+#[derive(Clone, Copy)]
 pub struct MfcCompared {
     // The refusal's number, 0 for none.
     pub refusal: u8,
@@ -110,7 +110,7 @@ pub struct MfcCompared {
 
 // What a field edit answers.
 #[repr(C)]
-#[derive(Drop)]
+#[derive(Clone, Copy)]
 pub struct MfcRegister {
     // The refusal's number, 0 for none.
     pub refusal: u8,
@@ -120,7 +120,7 @@ pub struct MfcRegister {
 
 // What a scaled reading answers.
 #[repr(C)]
-#[derive(Drop)]
+#[derive(Clone, Copy)]
 pub struct MfcThousandths {
     // The refusal's number, 0 for none.
     pub refusal: u8,
@@ -130,7 +130,7 @@ pub struct MfcThousandths {
 
 // What a scaled reading in single precision answers.
 #[repr(C)]
-#[derive(Drop)]
+#[derive(Clone, Copy)]
 pub struct MfcQuantity {
     // The refusal's number, 0 for none.
     pub refusal: u8,

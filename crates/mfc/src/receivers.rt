@@ -12,19 +12,19 @@ use refusal::Refusal;
 use shdlc::Kind;
 
 // A kind of frame, a mode and a record by their numbers.
-#[derive(Drop)]
+#[derive(Clone, Copy)]
 enum KindAt {
     Known(Kind),
     Unknown,
 }
 
-#[derive(Drop)]
+#[derive(Clone, Copy)]
 enum ModeAt {
     Known(Mode),
     Unknown,
 }
 
-#[derive(Drop)]
+#[derive(Clone, Copy)]
 enum Loaded {
     Held(Receiver),
     BadRecord,

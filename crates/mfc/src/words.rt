@@ -16,13 +16,13 @@ use refusal::Refusal;
 const TABLE_FROM: usize = 6;
 
 // A command of a code, or none.
-#[derive(Drop)]
+#[derive(Clone, Copy)]
 enum Sfc6Code {
     Listed(Sfc6),
     Unlisted,
 }
 
-#[derive(Drop)]
+#[derive(Clone, Copy)]
 enum LiquidCode {
     Listed(Liquid),
     Unlisted,

@@ -2,7 +2,7 @@
 use refusal::Refusal;
 
 // How many bytes a field takes.
-#[derive(Drop)]
+#[derive(Clone, Copy)]
 pub enum Width {
     One,
     Two,
@@ -10,26 +10,26 @@ pub enum Width {
 }
 
 // What taking a field answers: its value, or why not.
-#[derive(Drop)]
+#[derive(Clone, Copy)]
 pub enum FieldU8 {
     Value(u8),
     Refused(Refusal),
 }
 
-#[derive(Drop)]
+#[derive(Clone, Copy)]
 pub enum FieldU16 {
     Value(u16),
     Refused(Refusal),
 }
 
-#[derive(Drop)]
+#[derive(Clone, Copy)]
 pub enum FieldU32 {
     Value(u32),
     Refused(Refusal),
 }
 
 // What writing a field answers: the place after it, or why not.
-#[derive(Drop)]
+#[derive(Clone, Copy)]
 pub enum Placed {
     Next(usize),
     Refused(Refusal),

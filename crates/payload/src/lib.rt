@@ -167,7 +167,7 @@ pub fn put(out: &mut [u8], place: usize, n: u32, width: Width) -> Placed
 }
 
 // A reader: a payload and the place of its next field.
-#[derive(Drop)]
+#[derive(Clone, Copy)]
 pub struct Reader<'a> {
     pub payload: &'a [u8],
     pub place: usize,

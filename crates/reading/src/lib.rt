@@ -7,14 +7,14 @@ ghost use Rattle.reading.specs.Reading.{rounded, paper_thousandths, in_thousandt
 use refusal::Refusal;
 
 // A reading in thousandths of the unit, or why there is none.
-#[derive(Drop)]
+#[derive(Clone, Copy)]
 pub enum Thousandths {
     Value(i32),
     Refused(Refusal),
 }
 
 // A reading in single precision, or why there is none.
-#[derive(Drop)]
+#[derive(Clone, Copy)]
 pub enum Quantity {
     Value(f32),
     Refused(Refusal),

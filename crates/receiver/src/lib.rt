@@ -17,7 +17,7 @@ use shdlc::{Checked, Kind};
 
 // Where the receiver stands: before the first 7E or after silence; in a stretch; in one after a 7D; in one with the fault of
 // refusal 3 or 4 found.
-#[derive(Drop)]
+#[derive(Clone, Copy)]
 pub enum Mode {
     Outside,
     Plain,
@@ -27,7 +27,7 @@ pub enum Mode {
 }
 
 // The receiver's record, with a store of 260 bytes that the caller lends beside it. docs/RECORD.md has its ranges.
-#[derive(Drop)]
+#[derive(Clone, Copy)]
 pub struct Receiver {
     pub kind: Kind,
     pub mode: Mode,
@@ -39,14 +39,14 @@ pub struct Receiver {
 const MOST_NOISE: usize = 4_294_967_295;
 
 // What making a receiver answers.
-#[derive(Drop)]
+#[derive(Clone, Copy)]
 pub enum Made {
     Fresh(Receiver),
     Refused(Refusal),
 }
 
 // What a call answers: a frame by the length of its body.
-#[derive(Drop)]
+#[derive(Clone, Copy)]
 pub enum Answer {
     Nothing,
     Frame(usize),
@@ -54,7 +54,7 @@ pub enum Answer {
 }
 
 // What feeding gives back.
-#[derive(Drop)]
+#[derive(Clone, Copy)]
 pub struct Fed {
     pub receiver: Receiver,
     pub taken: usize,
@@ -62,14 +62,14 @@ pub struct Fed {
 }
 
 // What asking for the noise count answers.
-#[derive(Drop)]
+#[derive(Clone, Copy)]
 pub enum NoiseCount {
     Count(u32),
     Refused(Refusal),
 }
 
 // What scanning a piece found: the record, the bytes passed, and whether the last of them is a 7E that ends a stretch.
-#[derive(Drop)]
+#[derive(Clone, Copy)]
 struct Scanned {
     receiver: Receiver,
     taken: usize,

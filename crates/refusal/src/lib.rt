@@ -5,7 +5,7 @@ ghost use Rattle.std.specs.Prelude.{◌≡◌};
 ghost use Rattle.refusal.specs.Refusals.{number_of, place_of};
 
 // Why an entry point does not serve. The comment of a case is its number and its row of the table.
-#[derive(Drop)]
+#[derive(Clone, Copy)]
 pub enum Refusal {
     // 1: lent room is less than this answer needs; a board's table not of 32 places; a log's length past the lent buffer.
     NoRoom,

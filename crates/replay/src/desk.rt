@@ -14,14 +14,14 @@ use refusal::Refusal;
 use sfc6::{ReadRequest, Request};
 
 // The latest request frame, where it was read as a request: the address that it was sent to, and what it asks.
-#[derive(Drop)]
+#[derive(Clone, Copy)]
 pub enum Latest {
     Nothing,
     Known(u8, Request),
 }
 
 // The refusal's number that ended the board, 0 for none: the first order that is refused ends it.
-#[derive(Drop)]
+#[derive(Clone, Copy)]
 pub struct Desk {
     pub latest: Latest,
     pub ended: u8,

@@ -37,7 +37,7 @@ fn note_answer(
 }
 
 // A side of the line: its receiver, whose store is lent beside it, and what is kept.
-#[derive(Drop)]
+#[derive(Clone, Copy)]
 pub struct Line {
     pub receiver: Receiver,
     pub desk: Desk,
@@ -85,7 +85,7 @@ fn replay_mark(from: Receiver, store: &mut [u8], none: &[u8], frame: &mut [u8]) 
 }
 
 // Where the replay stands: the records of the two receivers, whose stores are lent beside it, and what is kept.
-#[derive(Drop)]
+#[derive(Clone, Copy)]
 pub struct Run {
     pub requests: Receiver,
     pub replies: Receiver,

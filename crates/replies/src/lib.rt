@@ -20,7 +20,7 @@ use sfc6::{Answer, Request, Row};
 use shdlc::{Checked, Kind, Written};
 
 // A float of a reply: a finite value, or one of three codings.
-#[derive(Drop)]
+#[derive(Clone, Copy)]
 pub enum Reading {
     Finite(f32),
     Invalid,
@@ -29,7 +29,7 @@ pub enum Reading {
 }
 
 // A reply, with the value that it carries. A validity is yes or no. The text of a product type stands beside it.
-#[derive(Drop)]
+#[derive(Clone, Copy)]
 pub enum Reply {
     Acknowledged,
     Setpoint(Reading),
@@ -50,7 +50,7 @@ pub enum Reply {
 }
 
 // What a reply carries, whichever request it answers.
-#[derive(Drop)]
+#[derive(Clone, Copy)]
 enum Content {
     Nothing,
     Float(Reading),
@@ -64,14 +64,14 @@ enum Content {
 }
 
 // A reply taken apart.
-#[derive(Drop)]
+#[derive(Clone, Copy)]
 enum Taken {
     Carried(Content),
     Refused(Refusal),
 }
 
 // What reading a reply answers. The bool is bit 7 of the state.
-#[derive(Drop)]
+#[derive(Clone, Copy)]
 pub enum ReadReply {
     // A reply of the kind that the request expects.
     Value(Reply, bool),

@@ -22,7 +22,7 @@ use refusal::Refusal;
 use shdlc::{Checked, Kind, Written};
 
 // A request, with the value that it carries.
-#[derive(Drop)]
+#[derive(Clone, Copy)]
 pub enum Request {
     GetSetpoint,
     SetSetpoint(f32),
@@ -48,14 +48,14 @@ pub enum Request {
 }
 
 // The subcommand of a row.
-#[derive(Drop)]
+#[derive(Clone, Copy)]
 pub enum Subcommand {
     Missing,
     Byte(u8),
 }
 
 // What a request carries after its subcommand.
-#[derive(Drop)]
+#[derive(Clone, Copy)]
 pub enum Value {
     Nothing,
     Float(f32),
@@ -65,7 +65,7 @@ pub enum Value {
 }
 
 // What the reply carries.
-#[derive(Drop)]
+#[derive(Clone, Copy)]
 pub enum Answer {
     Nothing,
     Float,
@@ -78,7 +78,7 @@ pub enum Answer {
 }
 
 // A row of the table of commands.
-#[derive(Drop)]
+#[derive(Clone, Copy)]
 pub struct Row {
     pub command: u8,
     pub sub: Subcommand,
@@ -87,7 +87,7 @@ pub struct Row {
 }
 
 // What a polling round answers: the frames that it laid, the place after them, and whether one was refused.
-#[derive(Drop)]
+#[derive(Clone, Copy)]
 pub struct Round {
     pub frames: usize,
     pub end: usize,
@@ -98,21 +98,21 @@ pub struct Round {
 const LAST: usize = 20;
 
 // Where a row stands in the table.
-#[derive(Drop)]
+#[derive(Clone, Copy)]
 enum Found {
     At(usize),
     Nothing,
 }
 
 // A request, or why there is none.
-#[derive(Drop)]
+#[derive(Clone, Copy)]
 pub enum Typed {
     Known(Request),
     Refused(Refusal),
 }
 
 // What reading a request answers: its address and the request, or why not.
-#[derive(Drop)]
+#[derive(Clone, Copy)]
 pub enum ReadRequest {
     Done(u8, Request),
     Refused(Refusal),

@@ -16,21 +16,21 @@ use refusal::Refusal;
 pub mod runs;
 
 // Which frames are expected: requests (MOSI) or replies (MISO).
-#[derive(Drop)]
+#[derive(Clone, Copy)]
 pub enum Kind {
     Request,
     Reply,
 }
 
 // What the checks of a body answer.
-#[derive(Drop)]
+#[derive(Clone, Copy)]
 pub enum Checked {
     Good,
     Refused(Refusal),
 }
 
 // What a writer answers: the number of bytes written, or why not.
-#[derive(Drop)]
+#[derive(Clone, Copy)]
 pub enum Written {
     Done(usize),
     Refused(Refusal),
@@ -192,7 +192,7 @@ pub fn put_at(out: &mut [u8], place: usize, b: u8) -> usize
 }
 
 // Where the next byte goes, and the sum of those before it, modulo 256.
-#[derive(Drop)]
+#[derive(Clone, Copy)]
 struct Laid {
     place: usize,
     total: u8,

@@ -12,13 +12,13 @@ use libc::STDIN_FILENO;
 use words::word;
 
 // A line that was read, without its line feed: how long it is, and whether the input ended before it.
-#[derive(Drop)]
+#[derive(Clone, Copy)]
 struct Line {
     size: usize,
     end: bool,
 }
 
-#[derive(Drop)]
+#[derive(Clone, Copy)]
 enum Input {
     Byte(u8),
     End,

@@ -10,7 +10,7 @@ use sfc6::{ReadRequest, Request};
 use shdlc::{Kind, Written};
 
 // A receiver, whether silence came that it was not told of yet, and whether it has given an item.
-#[derive(Drop)]
+#[derive(Clone, Copy)]
 struct Seen {
     receiver: Receiver,
     silence: bool,
@@ -18,7 +18,7 @@ struct Seen {
 }
 
 // What a call left, and the bytes that it took.
-#[derive(Drop)]
+#[derive(Clone, Copy)]
 struct Taken {
     seen: Seen,
     taken: usize,

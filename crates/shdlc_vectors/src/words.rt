@@ -4,7 +4,7 @@ ghost use Rattle.std.specs.Prelude.{◌<◌};
 use crate::bytes::{find, part, push};
 
 // The bytes that a word stands for: one or two, so many times.
-#[derive(Drop)]
+#[derive(Clone, Copy)]
 pub(crate) struct Repeat {
     pub(crate) first: u8,
     pub(crate) second: u8,

@@ -10,7 +10,7 @@ pub mod text;
 pub mod writer;
 
 // What a call answers: how many records or rows there are or how long the log is, or why not.
-#[derive(Drop)]
+#[derive(Clone, Copy)]
 pub enum Answer {
     Number(usize),
     Refused(Refusal),

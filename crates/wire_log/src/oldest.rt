@@ -8,7 +8,7 @@ use crate::listing::back;
 use crate::reader::{Ending, ending_at};
 
 // A record by its kind, where its body starts in the file, and its body's length.
-#[derive(Drop)]
+#[derive(Clone, Copy)]
 pub struct Found {
     pub kind: u8,
     pub start: usize,

@@ -24,7 +24,7 @@ pub(crate) const MOST: usize = 65000;
 
 // What ends at a place: a record, by its kind, where its body starts, which is where the record before it ends, and its body's length; or
 // what is wrong with it.
-#[derive(Drop)]
+#[derive(Clone, Copy)]
 pub(crate) enum Ending {
     Record(u8, usize, usize),
     Refused(Refusal),
