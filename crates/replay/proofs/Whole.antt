@@ -6,7 +6,7 @@ use mathlib.Core.Bool.{Bool, true, false, not}
 use mathlib.Core.List.{List, [], reverse}
 use lib.ListN.{length, take}
 use lib.Seq.{take_all}
-use borrow.Author.Tests.{le-ltb, not_true, not_false}
+use borrow.Author.Tests.{le-ltb, not_true, not-false}
 use Rattle.refusal.specs.declared.Refusal.{Refusal}
 use Rattle.refusal.specs.Refusals.{Numbered, number, Answered, served, refused}
 use Rattle.refusal.proofs.Order.{refused_not_served}
@@ -108,7 +108,7 @@ module _ (file : List ℕ) (lease room : ℕ) (r : Listed) (count : ℕ) (rows :
   module _ (b : Bool) (e : b ≡ lease_in_range lease) (h : not b ≡ false) where
     check_refused : (n : Numbered) → records_of kinds file ≡ refused n → replayed file lease ≡ refused n
     unfolding replayed
-    check_refused n f = rw (← e, not_false b h, f)
+    check_refused n f = rw (← e, not-false b h, f)
 
     counting_refused : (n : Numbered) (a : Answered (List LogRecord)) → refused n ≡ counting a → a ≡ refused n
     counting_refused n (served l) f = absurd (refused_not_served f)
@@ -120,7 +120,7 @@ module _ (file : List ℕ) (lease room : ℕ) (r : Listed) (count : ℕ) (rows :
     served_board : (listed' : List LogRecord) → records_of kinds file ≡ served listed'
         → replayed file lease ≡ list_of (board_of file lease)
     unfolding replayed replayed_by board_of
-    served_board l f = rw (← e, not_false b h, f)
+    served_board l f = rw (← e, not-false b h, f)
 
     pub log_replayed : (n : ℕ) → served n ≡ counting (records_of kinds file) → Replays (list_of (board_of file lease)) → Whole
     log_replayed n f g = whole (list_of (board_of file lease)) (served_board (p file n lease f).listing (p file n lease f).is) g

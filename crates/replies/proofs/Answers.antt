@@ -7,7 +7,7 @@ use Prim.Native.Nat.{ℕ, ◌+◌, ◌-◌, ◌≤◌}
 use native.Mathlib.Omega.{arith}
 use lib.Dec.{T, eqb}
 use lib.ListN.{length, get_or, take, drop, length-take, length-drop}
-use borrow.Author.Tests.{eq-eqb, ne_eqb, not_false}
+use borrow.Author.Tests.{eq-eqb, ne_eqb, not-false}
 use types.Run.{OneOf}
 use denote.Enum.Declared.{tag_of}
 use Rattle.refusal.specs.declared.Refusal.{Refusal}
@@ -156,7 +156,7 @@ module _ (address : ℕ) (q : Request) (body : List ℕ) where
               unfolding read_reply
               reply_15 h =
                   let k = lengths address r body (sym belongs ∙ own) in
-                  let l : eqb (length_in body) 0 ≡ true = not_false _ (rw (ne_eqb _ _ h) at k) in
+                  let l : eqb (length_in body) 0 ≡ true = not-false _ (rw (ne_eqb _ _ h) at k) in
                   let e : answer_to address q body ≡ refused (15 carrying code_in body) = past_body ∙ rw (← at_row, ← belongs, own, ne_eqb _ _ h, l) in
                   rw e
 
@@ -164,7 +164,7 @@ module _ (address : ℕ) (q : Request) (body : List ℕ) where
                 pub size_settled : is_size (size_of r.answer) (length (take (length body - 1 - 4) (drop 4 body))) ≡ true
                 size_settled =
                     let k = lengths address r body (sym belongs ∙ own) in
-                    let l : is_size (size_of r.answer) (length_in body) ≡ true = not_false _ (rw (eq-eqb _ _ no_error) at k) in
+                    let l : is_size (size_of r.answer) (length_in body) ≡ true = not-false _ (rw (eq-eqb _ _ no_error) at k) in
                     let n : length (take (length body - 1 - 4) (drop 4 body)) ≡ length_in body =
                     omega (arith, length-take (length body - 1 - 4) (drop 4 body), length-drop 4 body, body_bounds.1) in
                     rw n l

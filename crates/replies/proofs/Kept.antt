@@ -9,7 +9,7 @@ use lib.Dec.{T, eqb, ltb}
 use lib.ListN.{length}
 use lib.Ieee.{binary32, to_bits, of_bits}
 use lib.Ieee.Bits.{of_bits-to_bits, to_bits-lt, to_bits-of_bits}
-use borrow.Author.Tests.{eq-eqb, ne_eqb, eqb-true, eqb-false, ltb-false, ltb-true, not_false}
+use borrow.Author.Tests.{eq-eqb, ne_eqb, eqb-true, eqb-false, ltb-false, ltb-true, not-false}
 use Rattle.refusal.specs.Refusals.{served}
 use Rattle.payload.specs.Field.{big, big_endian, Bytes}
 use Rattle.payload.proofs.Big.{big_of_big_endian, big_lt, big_endian_of_big}
@@ -38,7 +38,7 @@ no_coding b k f g e = subst T (sym f ∙ ap finite e ∙ g) tt
 
 coding_back : (x : Reading) → FitsReading x → not_finite x ≡ false → reading_of (bits_of x) ≡ x
 coding_back (Finite x) h g =
-    let f = not_false (finite (to_bits binary32 x)) g in
+    let f = not-false (finite (to_bits binary32 x)) g in
     simp (
       ne_eqb _ _ (no_coding (to_bits binary32 x) 0xFFFFFFFF f refl),
       ne_eqb _ _ (no_coding (to_bits binary32 x) 0x7F800000 f refl),

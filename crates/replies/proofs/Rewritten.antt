@@ -9,7 +9,7 @@ use native.Mathlib.Omega.{arith}
 use lib.Dec.{T, eqb, leb}
 use lib.ListN.{length, get_or, take, drop, length-append, length-take, length-drop}
 use lib.Seq.{take-take}
-use borrow.Author.Tests.{lt-ltb, le-ltb, leb-true, leb-false, eqb-true, not_false}
+use borrow.Author.Tests.{lt-ltb, le-ltb, leb-true, leb-false, eqb-true, not-false}
 use Rattle.refusal.specs.Refusals.{Numbered, number, ◌carrying◌, number_in, Answered, served, refused, in_order}
 use Rattle.refusal.specs.Room.{emit, lay}
 use Rattle.refusal.proofs.Order.{passed}
@@ -128,7 +128,7 @@ belongs : (address : ℕ) (r : Row) (body : List ℕ) → foreign address r body
 unfolding foreign
 belongs address r body h =
     let p = first_three (eqb address 255) (not (eqb (get_or body 0 0) address)) (not (eqb (get_or body 1 0) r.command)) _ h in
-    (p.0, eqb-true _ _ (not_false _ p.1), eqb-true _ _ (not_false _ p.2))
+    (p.0, eqb-true _ _ (not-false _ p.1), eqb-true _ _ (not-false _ p.2))
 
 -- the front of a body of five bytes or more
 front : (b : List ℕ) → 5 ≤ length b → get_or b 0 0 ∷ get_or b 1 0 ∷ get_or b 2 0 ∷ get_or b 3 0 ∷ data_in b ≡ take (length b - 1) b
@@ -178,8 +178,8 @@ module _ (address : ℕ) (q : Request) (body : List ℕ) (bit7 : Bool) {answer :
 
 -- where the reply is served, the code is 0 and the length is the table's
 settled : (x y z : Bool) → (not x && y) ≡ false → cond x (not z) (not y) ≡ false → (x ≡ true) × (z ≡ true)
-settled true y z h g = (refl, not_false z g)
-settled false y z h g = wrong (sym (not_false y g) ∙ h)
+settled true y z h g = (refl, not-false z g)
+settled false y z h g = wrong (sym (not-false y g) ∙ h)
 
 code_zero : (address : ℕ) (q : Request) (body : List ℕ) → (not (eqb (code_in body) 0) && eqb (length_in body) 0) ≡ false → foreign address (row q) body ≡ false
     → (code_in body ≡ 0) × (is_size (size_of (row q).answer) (length_in body) ≡ true)

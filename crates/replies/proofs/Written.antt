@@ -9,7 +9,7 @@ use native.Mathlib.Omega.{arith}
 use lib.Dec.{eqb, ltb, leb}
 use lib.ListN.{length, get_or, take, drop, length-append}
 use lib.Seq.{take_at, take-append_seam}
-use borrow.Author.Tests.{eq-eqb, ne_eqb, le-leb, lt-leb, eqb-true, eqb-false, not_false}
+use borrow.Author.Tests.{eq-eqb, ne_eqb, le-leb, lt-leb, eqb-true, eqb-false, not-false}
 use Rattle.refusal.specs.Refusals.{Numbered, number, ◌carrying◌, Answered, served, refused, in_order}
 use Rattle.refusal.specs.Room.{overlay, emit, lay}
 use Rattle.refusal.proofs.Order.{passed}
@@ -77,7 +77,7 @@ module _ (address : ℕ) (q : Request) (r : Reply) (words : List ℕ) (bit7 : Bo
         record {
           request_good = p.0;
           one = o.0;
-          suit = not_false (suits q r) o.1;
+          suit = not-false (suits q r) o.1;
           in_range_lem = s.0;
           good_text = s.1;
           good_float = m.0;

@@ -1,6 +1,6 @@
 -- `sfc6::suits` meets its contract. Assumes nothing.
 use borrow.Author.Rules.{rules}
-use borrow.Author.Tests.{not_true, not_false}
+use borrow.Author.Tests.{not_true, not-false}
 use Rattle.sfc6.proofs.Reading.{other_command, other_sub, suits-whole, suits_name}
 use Rattle.sfc6.proofs.suits.Statement.{statement}
 use Rattle.sfc6.proofs.suits.Tie as tie
@@ -18,14 +18,14 @@ returns-3 c =
     let e = c.before.before in
     let a = e.before.before.before.before.before.args in
     suits-whole a.row a.command a.payload.now e.before.before.if1.false e.before.starts_with.ensures a.whole _
-    (not_false _ e.if2.false) c.before.if3.true c.data-size.ensures.0
+    (not-false _ e.if2.false) c.before.if3.true c.data-size.ensures.0
 
 returns-4 : tie.Need-returns-4
 returns-4 c =
     let e = c.before in
     let a = e.before.before.before.before.before.args in
     suits_name a.row a.command a.payload.now e.before.before.if1.false e.before.starts_with.ensures a.whole
-    (not_false _ e.if2.false) c.if3.false
+    (not-false _ e.if2.false) c.if3.false
 
 pub suits-spec : {M : Type 1} → statement M
 suits-spec =

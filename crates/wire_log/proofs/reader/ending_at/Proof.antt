@@ -1,7 +1,7 @@
 -- `log::reader::ending_at` meets its contract: at each return the tests that led there. Assumes nothing.
 use borrow.Author.Rules.{rules}
 use mathlib.Core.Path.{sym, ◌∙◌}
-use borrow.Author.Tests.{not_true, not_false}
+use borrow.Author.Tests.{not_true, not-false}
 use Rattle.wire_log.proofs.Steps.{found-cut, found-before-start, found_unknown, found_record}
 use Rattle.wire_log.proofs.reader.ending_at.Statement.{statement}
 use Rattle.wire_log.proofs.reader.ending_at.Tie as tie
@@ -20,7 +20,7 @@ returns-3 c =
 returns-4 : tie.Need-returns-4
 returns-4 c =
     let t = c.before.before.before.before in
-    found_record _ _ _ _ t.size-before.ensures t.before.if1.false c.before.before.before.if2.false t.before.before.before.requires (sym c.before.is_Known.ensures ∙ not_false _ c.if3.false)
+    found_record _ _ _ _ t.size-before.ensures t.before.if1.false c.before.before.before.if2.false t.before.before.before.requires (sym c.before.is_Known.ensures ∙ not-false _ c.if3.false)
 
 pub ending-at-spec : {M : Type 1} → statement M
 ending-at-spec =
