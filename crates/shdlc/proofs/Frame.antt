@@ -2,10 +2,10 @@
 use mathlib.Core.Path.{◌≡◌, refl, sym, ap, ◌∙◌}
 use mathlib.Core.Bool.{Bool, true, false, cond, not}
 use mathlib.Core.List.{List, [], ◌∷◌, ◌++◌, append_assoc}
-use Prim.Native.Nat.{ℕ, ◌+◌, ◌-◌, ◌*◌, ◌/◌, ◌%◌, ◌≤◌, ◌<◌}
+use Prim.Native.Nat.{ℕ, ◌+◌, ◌-◌, ◌/◌, ◌%◌, ◌≤◌, ◌<◌}
 use native.Mathlib.Omega.{arith}
 use lib.Dec.{ltb, eqb}
-use borrow.Author.Tests.{ne_eqb, lt-ltb, le-ltb, ltb-true, ltb-false, not_false}
+use borrow.Author.Tests.{ne_eqb, lt-ltb, le-ltb, ltb-true, ltb-false, not-false}
 use lib.ListN.{length, set, length-set, length-append}
 use Rattle.refusal.specs.Refusals.{number, Answered, served, refused}
 use Rattle.refusal.specs.Room.{overlay}
@@ -131,7 +131,7 @@ pub roomy_holds : (half n : ℕ) (test : Bool) → test ≡ not (ltb half n) →
 roomy_holds half n test e h = ltb-false _ _ (not_true _ (sym e ∙ h))
 
 pub not_roomy : (half n : ℕ) (test : Bool) → test ≡ not (ltb half n) → test ≡ false → half < n
-not_roomy half n test e h = ltb-true _ _ (not_false _ (sym e ∙ h))
+not_roomy half n test e h = ltb-true _ _ (not-false _ (sym e ∙ h))
 
 -- a test of the room, where it is too short and where it is not
 module _ (body room : List ℕ) {test : Bool} (e : test ≡ ltb (length room) (length (frame_of body))) where

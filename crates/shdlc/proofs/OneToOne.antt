@@ -2,7 +2,6 @@
 use mathlib.Core.Path.{◌≡◌, refl, sym, ap}
 use mathlib.Core.List.{List}
 use Prim.Native.Nat.{ℕ}
-use Rattle.refusal.specs.Refusals.{paper}
 use Rattle.refusal.proofs.Order.{refused_not_served}
 use Rattle.refusal.proofs.OneToOne.{refused_one_to_one}
 use Rattle.shdlc.specs.declared.Checked.{Checked}

@@ -1,24 +1,22 @@
 -- Laws of a stream: the place that it leaves, the items of a stream that goes on, and the one item of a frame that was written.
 -- Assumes nothing.
-use mathlib.Core.Path.{◌≡◌, refl, sym, ap, subst, ◌∙◌}
-use mathlib.Core.Bool.{Bool, true, false, cond}
+use mathlib.Core.Path.{◌≡◌, refl, sym, ap, ◌∙◌}
+use mathlib.Core.Bool.{Bool, false}
 use mathlib.Core.List.{List, [], ◌∷◌, ◌++◌, map, append_assoc, append-nil}
-use mathlib.Core.Option.{Option, none, some}
-use Prim.Native.Nat.{ℕ, ◌+◌, ◌≤◌}
+use Prim.Native.Nat.{ℕ, ◌≤◌}
 use native.Mathlib.Omega.{arith}
 use lib.Dec.{eqb}
-use borrow.Author.Tests.{eqb-true}
 use lib.ListN.{length, length-append}
-use Rattle.refusal.specs.Refusals.{Numbered, number, Answered, served, refused, in_order}
+use Rattle.refusal.specs.Refusals.{Numbered, Answered, served, refused, in_order}
 use Rattle.shdlc.specs.declared.Kind.{Kind}
 use Rattle.shdlc.specs.Checksum.{checksum_of}
-use Rattle.shdlc.specs.Stuffing.{escapes, right_of, sent, stuff_byte, stuff, unstuff}
+use Rattle.shdlc.specs.Stuffing.{stuff_byte, stuff, unstuff}
 use Rattle.shdlc.specs.Body.{check_body}
 use Rattle.shdlc.specs.Frame.{with_checksum, frame_of}
 use Rattle.shdlc.specs.ReadBack.{Unbroken, closed}
-use Rattle.shdlc.specs.Stream.{Event, byte, mark, Item, judge_body, judge, Place, outside, inside, next_byte, next, gain, items_from, items}
+use Rattle.shdlc.specs.Stream.{Event, byte, judge_body, judge, Place, inside, next_byte, next, gain, items_from, items}
 use Rattle.refusal.proofs.Order.{passed, refused_not_served}
-use Rattle.shdlc.specs.Body.{body_checks, longest, shortest, length_place}
+use Rattle.shdlc.specs.Body.{body_checks}
 use Rattle.shdlc.proofs.Stuffing.{byte_short, each_byte, unstuff-stuff}
 use Rattle.shdlc.proofs.Restuffed.{restuffed}
 

@@ -1,7 +1,7 @@
 -- 01, Frames on the wire: "The unstuffed body of a request is address, command, L, L data bytes, checksum. A reply has a state
 -- byte between command and L." And what is refused of a body.
-use Rattle.std.specs.Prelude.{ℕ, ◌+◌, ◌-◌, Bool, not, List, [], ◌∷◌, ltb, eqb, length, get_or, take}
-use Rattle.refusal.specs.Refusals.{Numbered, number, Answered, served, refused, in_order}
+use Rattle.std.specs.Prelude.{ℕ, ◌-◌, Bool, not, List, [], ◌∷◌, ltb, eqb, length, get_or, take}
+use Rattle.refusal.specs.Refusals.{Numbered, number, Answered, in_order}
 use Rattle.shdlc.specs.declared.Kind.{Kind}
 use Rattle.shdlc.specs.declared.Kind.TheVariants.{Request, Reply}
 use Rattle.shdlc.specs.Checksum.{checksum_of}

@@ -1,0 +1,21 @@
+-- `shdlc::put_stuffed` meets its contract. The invariant: what is written now, with the bytes left written after it, is the whole, and
+-- the same of the sum. Assumes nothing.
+use mathlib.Core.Path.{◌≡◌}
+use Prim.Native.Nat.{◌+◌, ◌-◌, ◌%◌, ◌≤◌, ◌<◌}
+use lib.ListN.{length, drop}
+use Rattle.refusal.specs.Room.{overlay}
+use Rattle.shdlc.specs.Checksum.{sum}
+use Rattle.shdlc.specs.Stuffing.{stuff}
+use Rattle.shdlc.proofs.put_stuffed.Given as goal
+
+abbrev pub invariant-loop-i : goal.invariant-loop-i
+invariant-loop-i l =
+    (l.i ≤ length l.bytes)
+    × (l.o + length (stuff (drop l.i l.bytes)) ≡ l.place + length (stuff l.bytes))
+    × (overlay l.out l.o (stuff (drop l.i l.bytes)) ≡ overlay l.initial.out l.place (stuff l.bytes))
+    × (length l.out ≡ length l.initial.out)
+    × (l.total < 256)
+    × ((l.total + sum (drop l.i l.bytes)) % 256 ≡ (l.start + sum l.bytes) % 256)
+
+abbrev pub decreases-loop-i : goal.decreases-loop-i
+decreases-loop-i l = length l.bytes - l.i

@@ -1,0 +1,33 @@
+-- `shdlc::runs::copy_run` meets its contract: the block that is written holds the first 16 bytes. Assumes nothing.
+use mathlib.Core.Path.{◌≡◌, sym, ap, ◌∙◌}
+use Prim.Native.Nat.{◌≤◌}
+use native.Mathlib.Omega.{arith}
+use lib.ListN.{length, take, length-take}
+use lib.Seq.{length-take-le}
+use Rattle.refusal.specs.Room.{overlay}
+use Rattle.refusal.proofs.Room.{overlay_all}
+use Rattle.shdlc.proofs.runs.copy_run.Goals as goal
+
+pub copy-requires : goal.copy-requires
+copy-requires c =
+    let l = c.args.bytes.now in
+    omega (arith, length-take 16 l)
+
+pub returns-then-bytes-ge16 : goal.returns-then-bytes-ge16
+returns-then-bytes-ge16 c =
+    let a = c.args in
+    let many : 16 ≤ length a.bytes.now = omega arith in
+    let block : c.copy.new.out ≡ take 16 a.bytes.now =
+    c.copy.ensures ∙ overlay_all _ (take 16 a.bytes.now) (length-take-le 16 a.bytes.now many) in
+    (omega arith, many, c.copy-then-bytes-ge16.ensures ∙ ap (overlay a.out.now a.place) block)
+
+pub copy-requires-2 : goal.copy-requires-2
+copy-requires-2 c =
+    let a = c.args in
+    omega (arith, length-take a.n a.bytes.now)
+
+pub slice_bounds-copy-end-then-bytes-ge16 : goal.slice_bounds-copy-end-then-bytes-ge16
+slice_bounds-copy-end-then-bytes-ge16 c = sym (length-take-le 16 c.args.bytes.now (omega arith))
+
+pub slice_bounds-copy-end-2 : goal.slice_bounds-copy-end-2
+slice_bounds-copy-end-2 c = sym (length-take-le _ _ (omega arith))
