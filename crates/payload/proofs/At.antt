@@ -1,8 +1,8 @@
 -- Fields at a place: the cases of reading one and of writing one, and that what is written is read back. Assumes nothing.
-use mathlib.Core.Path.{◌≡◌, refl, sym, ap, subst, ◌∙◌}
+use mathlib.Core.Path.{◌≡◌, sym, ap, ◌∙◌}
 use mathlib.Core.Bool.{Bool, true, false}
 use mathlib.Core.List.{List, ◌++◌}
-use Prim.Native.Nat.{ℕ, ◌+◌, ◌-◌, ◌/◌, ◌^◌, ◌≤◌, ◌<◌}
+use Prim.Native.Nat.{ℕ, ◌+◌, ◌/◌, ◌^◌, ◌≤◌, ◌<◌}
 use native.Mathlib.Omega.{arith}
 use lib.Dec.{ltb}
 use borrow.Author.Tests.{ltb-true, ltb-false, lt-ltb, le-ltb, le-leb, lt-leb}
@@ -11,17 +11,12 @@ use lib.Seq.{take_at, take_all, drop_at, length-take-le}
 use Rattle.refusal.specs.declared.Refusal.{Refusal}
 use Rattle.refusal.specs.Refusals.{Numbered, number, Answered, served, refused}
 use Rattle.refusal.proofs.Order.{refused_not_served}
-use Rattle.payload.specs.declared.fields.Width.{Width}
 use Rattle.payload.specs.declared.fields.Placed.{Placed}
 use Rattle.payload.specs.declared.fields.Placed.TheVariants.{Next, Refused}
 use Rattle.refusal.specs.Room.{overlay}
 use Rattle.refusal.proofs.Room.{overlay_then}
-use Rattle.payload.specs.Field.{big, big_endian, Bytes, bytes_in, taken_at, put_at, paper_placed}
+use Rattle.payload.specs.Field.{big, big_endian, taken_at, put_at, paper_placed}
 use Rattle.payload.proofs.Big.{length-big_endian, big_of_big_endian, big_endian_split}
-
--- what holds at a width that is known
-pub at_width : {A : Type 0} (f : ℕ → A) {width known : Width} {a : A} → width ≡ known → a ≡ f (bytes_in known) → a ≡ f (bytes_in width)
-at_width f {a = a} e h = subst (λ (w : Width). a ≡ f (bytes_in w)) (sym e) h
 
 module _ (payload : List ℕ) (place width : ℕ) where
   pub taken_refused : length payload < place + width → taken_at payload place width ≡ (refused (number 12), place)
@@ -44,11 +39,6 @@ module _ (payload : List ℕ) (place width : ℕ) where
       → taken_at payload place width ≡ (served (big (take width (drop place payload))), place + width)
   within is e = taken_served (fits is e)
 
--- the code's test subtracts
-subtracts : (t : Bool) (n size place : ℕ) → ltb (n - size) place ≡ t → size ≤ n → ltb (n - size) place ≡ ltb n (place + size)
-subtracts true n size place e h = e ∙ sym (lt-ltb n (place + size) (omega (arith, ltb-true (n - size) place e)))
-subtracts false n size place e h = e ∙ sym (le-ltb n (place + size) (omega (arith, ltb-false (n - size) place e)))
-
 -- a field that is all of a payload, and one of four bytes that is all but the first
 pub taken_whole : (payload : List ℕ) (width : ℕ) → length payload ≡ width → (taken_at payload 0 width).0 ≡ served (big payload)
 taken_whole payload width e =
@@ -68,9 +58,6 @@ taken_number {n} {m} e f g = let h : served n ≡ served m = e ∙ f ∙ g in cc
 
 pub taken_never : {A : Type 0} {n : Numbered} {m : ℕ} {a b : Answered ℕ} → refused n ≡ a → a ≡ b → b ≡ served m → A
 taken_never e f g = absurd (refused_not_served (e ∙ f ∙ g))
-
-pub ends_past : (n size place width : ℕ) → size ≡ width → size ≤ n → ltb (n - size) place ≡ ltb n (place + width)
-ends_past n size place width e h = subtracts (ltb (n - size) place) n size place refl h ∙ ap (λ (k : ℕ). ltb n (place + k)) e
 
 module _ (room : List ℕ) (place width n : ℕ) where
   pub put_out_of_range : 256 ^ width ≤ n → put_at room place width n ≡ (refused (number 12), room)

@@ -1,8 +1,4 @@
--- The laws of the definitions in specs/, and the walks that the functions over a reader share.
+-- The laws of the definitions in specs/.
 pub mod Big
 pub mod At
 pub mod OneToOne
-pub mod Taken
-pub mod Made
-pub mod Lent
-pub mod First
