@@ -3,9 +3,9 @@ use mathlib.Core.Path.{◌≡◌, refl, sym, subst}
 use mathlib.Core.Bool.{Bool, true, false, ◌&&◌}
 use Prim.Native.Nat.{◌^◌, ◌≤◌, ◌<◌}
 use native.Mathlib.Omega.{arith}
-use lib.Dec.{T, leb, ltb}
+use lib.Dec.{T, leb}
 use lib.IntN.{ℤ, pos, negsuc, nat_abs}
-use lib.Signed.{lt_z, non_neg}
+use lib.Signed.{lt_z}
 use borrow.Author.Tests.{ltb-true, ltb-false, leb-true, le-leb, lt-leb}
 use Rattle.reading.specs.Reading.{good_scale}
 
@@ -13,15 +13,6 @@ pub scale_low : (z : ℤ) → lt_z z (pos 1) ≡ true → good_scale z ≡ false
 unfolding good_scale
 scale_low (pos n) e = rw (lt-leb 1 n (ltb-true n 1 e))
 scale_low (negsuc n) e = refl
-
--- not low
-pub scale_nonneg : (z : ℤ) → lt_z z (pos 1) ≡ false → T (non_neg z)
-scale_nonneg (pos n) e = tt
-scale_nonneg (negsuc n) e = subst T e tt
-
-pub scale_some : (z : ℤ) → lt_z z (pos 1) ≡ false → 1 ≤ nat_abs z
-scale_some (pos n) e = ltb-false n 1 e
-scale_some (negsuc n) e = omega arith
 
 pub scale_high : (z : ℤ) → lt_z z (pos 1) ≡ false → lt_z (pos 32767) z ≡ true → good_scale z ≡ false
 unfolding good_scale
@@ -33,10 +24,6 @@ pub scale_good : (z : ℤ) → lt_z z (pos 1) ≡ false → lt_z (pos 32767) z �
 unfolding good_scale
 scale_good (pos n) e f = rw (le-leb 1 n (ltb-false n 1 e), le-leb n 32767 (ltb-false 32767 n f))
 scale_good (negsuc n) e f = absurd (subst T e tt)
-
-pub scale_size : (z : ℤ) → lt_z z (pos 1) ≡ false → lt_z (pos 32767) z ≡ false → nat_abs z < 2 ^ 15
-scale_size (pos n) e f = omega (arith, ltb-false 32767 n f)
-scale_size (negsuc n) e f = absurd (subst T e tt)
 
 -- a good scale's size
 pub good_size : (z : ℤ) → good_scale z ≡ true → (1 ≤ nat_abs z) × (nat_abs z < 2 ^ 15)

@@ -1,13 +1,12 @@
 -- Signed numbers as code has them: read back from their bits, and bounded by their size. Assumes nothing.
 use mathlib.Core.Path.{◌≡◌, refl, sym, ap, ◌∙◌, subst}
 use mathlib.Core.Bool.{Bool, true, false}
-use Prim.Native.Nat.{ℕ, zero, suc, ◌+◌, ◌-◌, ◌^◌, ◌≤◌, ◌<◌}
+use Prim.Native.Nat.{ℕ, zero, suc, ◌+◌, ◌^◌, ◌≤◌, ◌<◌}
 use native.Mathlib.Omega.{arith}
 use lib.Dec.{T, leb, ltb, le→leb, lt→ltb}
 use lib.Dec as D
-use lib.IntN.{ℤ, pos, negsuc, neg_ℤ, nat_abs, sub_ℕ, ◌-ℤ◌, ◌+ℤ◌, +ℤ_idl}
+use lib.IntN.{ℤ, pos, negsuc, neg_ℤ, nat_abs, sub_ℕ, ◌-ℤ◌, +ℤ_idl}
 use lib.Signed.{mag, lt_z, non_neg}
-use lib.Ieee.{binary32, in_float}
 use borrow.Author.Tests.{ltb-true}
 use mir.Syntax.{Width}
 use mir.Val.{hbits, SFits, to_z, of_z}
@@ -24,11 +23,6 @@ mag_le (negsuc n) = omega arith
 
 pub sfits_size : (w : Width) (z : ℤ) → nat_abs z < 2 ^ hbits w → SFits w z
 sfits_size w z h = record { sfits = omega (arith, mag_le z) }
-
-pub in_float_lem : (z : ℤ) → nat_abs z < 2 ^ 16 → T (in_float binary32 z)
-unfolding in_float
-in_float_lem (pos n) h = le→leb n (2 ^ 24) (omega arith)
-in_float_lem (negsuc n) h = lt→ltb n (2 ^ 24) (omega arith)
 
 -- a difference
 sub_size' : (a b k : ℕ) → a < k → b < k → nat_abs (sub_ℕ a b) < k

@@ -1,0 +1,26 @@
+-- `reading::scaled_float`: the tests say what the scale is.
+use Rattle.std.proofs.Common.{w16, w32}
+use mir.ValLaws.{to_z-of_z}
+use Rattle.reading.specs.Reading.{quantity}
+use Rattle.reading.proofs.Scale.{scale_low, scale_high, scale_good}
+use Rattle.reading.proofs.scaled_float.Goals as goal
+
+pub returns-then-scale-lt1 : goal.returns-then-scale-lt1
+unfolding quantity
+returns-then-scale-lt1 c =
+    let e = to_z-of_z w32 c.args.scale c.ranges.scale in
+    rw (scale_low c.args.scale (rw e at c.if-scale-lt1.true))
+
+pub returns-then-scale-gt32767 : goal.returns-then-scale-gt32767
+unfolding quantity
+returns-then-scale-gt32767 c =
+    let e = to_z-of_z w32 c.args.scale c.ranges.scale in
+    rw (scale_high c.args.scale (rw e at c.if-scale-lt1.false) (rw e at c.if-scale-gt32767.true))
+
+pub returns : goal.returns
+unfolding quantity
+returns c =
+    let d = c.difference-d in
+    let e = to_z-of_z w32 c.args.scale c.ranges.scale in
+    let p = rw (to_z-of_z w16 c.args.raw c.ranges.raw, to_z-of_z w16 c.args.offset c.ranges.offset) at d.ensures.0 in
+    rw (e, to_z-of_z w32 d.result (record { sfits = d.type_inv }), p, scale_good c.args.scale (rw e at c.if-scale-lt1.false) (rw e at c.if-scale-gt32767.false))
