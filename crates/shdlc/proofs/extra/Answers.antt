@@ -1,4 +1,3 @@
--- `shdlc::extra` meets its contract. Assumes nothing.
 use mathlib.Core.Path.{sym, ap}
 use lib.ListN.{length}
 use Rattle.shdlc.proofs.Stuffing.{sent_escaped, sent_plain}

@@ -1,5 +1,3 @@
--- `shdlc::has_escaped` meets its contract. The invariant: 1 was found where the bytes so far get longer by stuffing, else 0.
--- Assumes nothing.
 use borrow.Author.Tests.{ltb-true, ltb-false, eq-eqb, ne_eqb}
 use mathlib.Core.Path.{◌≡◌, refl}
 use mathlib.Core.Bool.{Bool, true, false, not}
@@ -27,6 +25,9 @@ found-longer found m n e = go (ltb m n) refl
     go : (test : Bool) → ltb m n ≡ test → not (eqb found 0) ≡ test
     go true h = let l = ltb-true m n h in rw (ne_eqb found 0 (λ z. omega arith))
     go false h = let l = ltb-false m n h in rw (eq-eqb found 0 (omega arith))
+
+pub loop-i-init : goal.loop-i-init
+loop-i-init c = (omega arith, omega arith, omega arith)
 
 pub loop-i-preserved : goal.loop-i-preserved
 loop-i-preserved c =

@@ -1,8 +1,5 @@
--- `shdlc::has_escaped` meets its contract. The invariant: 1 was found where the bytes so far get longer by stuffing, else 0.
--- Assumes nothing.
-use mathlib.Core.Path.{◌≡◌}
-use Prim.Native.Nat.{◌+◌, ◌-◌, min, ◌≤◌}
-use lib.ListN.{length, drop}
+-- 1 was found where the bytes so far get longer by stuffing, else 0.
+use Rattle.std.proofs.Common.{◌≡◌, ◌+◌, ◌-◌, min, ◌≤◌, length, drop}
 use Rattle.shdlc.specs.Stuffing.{stuff}
 use Rattle.shdlc.proofs.has_escaped.Given as goal
 

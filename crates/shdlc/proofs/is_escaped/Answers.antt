@@ -1,4 +1,4 @@
--- `shdlc::is_escaped` meets its contract: a byte takes two bytes in the two ranges, and one outside. Assumes nothing.
+-- A byte takes two bytes in the two ranges, and one outside.
 use mathlib.Core.Path.{◌∙◌}
 use mathlib.Core.Bool.{true, false}
 use lib.Dec.{ltb}

@@ -1,5 +1,3 @@
--- `shdlc::put_stuffed` meets its contract. The invariant: what is written now, with the bytes left written after it, is the whole, and
--- the same of the sum. Assumes nothing.
 use mathlib.Core.Path.{refl, sym, ◌∙◌}
 use Prim.Native.Nat.{◌≤◌, ◌<◌}
 use native.Mathlib.Omega.{arith}
@@ -11,21 +9,24 @@ use Rattle.shdlc.proofs.Body.{sum_step}
 use Rattle.shdlc.proofs.Stuffing.{stuff_nothing, stuff_here, length_here}
 use Rattle.shdlc.proofs.put_stuffed.Goals as goal
 
+pub loop-i-init : goal.loop-i-init
+loop-i-init c = (omega arith, refl, refl, refl, c.ranges.start.fits, refl)
+
 pub put_byte-o-requires : goal.put_byte-o-requires
-put_byte-o-requires c =
-    omega (arith, length_here c.args.bytes.now c.loop-i.i (omega arith))
+put_byte-o-requires c = omega (arith, length_here c.args.bytes.now c.loop-i.i (omega arith))
 
 pub loop-i-preserved : goal.loop-i-preserved
 unfolding sum
 loop-i-preserved c =
     let l = c.args.bytes.now in
-    let h : c.loop-i.i < length l = omega arith in
-    let k : c.loop-i.o ≤ length c.loop-i.out = omega arith in
+    let b = c.loop-i in
+    let h : b.i < length l = omega arith in
+    let k : b.o ≤ length b.out = omega arith in
     let e = c.put_byte-o.ensures in
-    let inv = rw (rest_here l c.loop-i.i h) at c.loop-i.invariant.5 in (
+    let inv = rw (rest_here l b.i h) at b.invariant.5 in (
       omega arith,
-      omega (arith, length_here l c.loop-i.i h),
-      rw (e.0, e.1) (overlay-more c.loop-i.out c.loop-i.o _ _ k ∙ rw (← stuff_here l c.loop-i.i h) c.loop-i.invariant.2),
+      omega (arith, length_here l b.i h),
+      rw (e.0, e.1) (overlay-more b.out b.o _ _ k ∙ rw (← stuff_here l b.i h) b.invariant.2),
       omega arith,
       omega (arith, c.plus-total.ensures),
       rw c.plus-total.ensures (sum_step _ _ _ ∙ inv),
@@ -36,6 +37,3 @@ unfolding sum
 returns c =
     let inv = rw (rest_end _ _ c.loop-i-test.false, stuff_nothing) at c.loop-i.invariant in
     (omega arith, omega arith, sym (overlay_nothing _ _) ∙ inv.2)
-
-pub loop-i-init : goal.loop-i-init
-loop-i-init c = (omega arith, refl, refl, refl, c.ranges.start.fits, refl)

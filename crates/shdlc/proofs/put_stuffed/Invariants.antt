@@ -1,8 +1,5 @@
--- `shdlc::put_stuffed` meets its contract. The invariant: what is written now, with the bytes left written after it, is the whole, and
--- the same of the sum. Assumes nothing.
-use mathlib.Core.Path.{◌≡◌}
-use Prim.Native.Nat.{◌+◌, ◌-◌, ◌%◌, ◌≤◌, ◌<◌}
-use lib.ListN.{length, drop}
+-- What is written now, with the bytes left written after it, is the whole, and the same of the sum.
+use Rattle.std.proofs.Common.{◌≡◌, ◌+◌, ◌-◌, ◌%◌, ◌≤◌, ◌<◌, length, drop}
 use Rattle.refusal.specs.Room.{overlay}
 use Rattle.shdlc.specs.Checksum.{sum}
 use Rattle.shdlc.specs.Stuffing.{stuff}

@@ -1,4 +1,3 @@
--- `shdlc::stuffed_len` meets its contract. The invariant: the count so far and that of the bytes left are the whole. Assumes nothing.
 use native.Mathlib.Omega.{arith}
 use Rattle.shdlc.specs.Stuffing.{stuff}
 use Rattle.refusal.proofs.Rest.{rest_end}
@@ -6,13 +5,10 @@ use Rattle.shdlc.proofs.Stuffing.{stuff_short, length_here}
 use Rattle.shdlc.proofs.stuffed_len.Goals as goal
 
 pub overflow_add-n : goal.overflow_add-n
-overflow_add-n c =
-    let l = c.args.bytes.now in
-    omega (arith, length_here l c.loop-i.i (omega arith), stuff_short l)
+overflow_add-n c = omega (arith, length_here c.args.bytes.now c.loop-i.i (omega arith), stuff_short c.args.bytes.now)
 
 pub loop-i-preserved : goal.loop-i-preserved
-loop-i-preserved c =
-    omega (arith, length_here c.args.bytes.now c.loop-i.i (omega arith))
+loop-i-preserved c = omega (arith, length_here c.args.bytes.now c.loop-i.i (omega arith))
 
 pub returns : goal.returns
 unfolding stuff

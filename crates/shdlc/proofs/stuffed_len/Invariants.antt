@@ -1,7 +1,5 @@
--- `shdlc::stuffed_len` meets its contract. The invariant: the count so far and that of the bytes left are the whole. Assumes nothing.
-use mathlib.Core.Path.{◌≡◌}
-use Prim.Native.Nat.{◌+◌, ◌-◌, ◌≤◌}
-use lib.ListN.{length, drop}
+-- The count so far and that of the bytes left are the whole.
+use Rattle.std.proofs.Common.{◌≡◌, ◌+◌, ◌-◌, ◌≤◌, length, drop}
 use Rattle.shdlc.specs.Stuffing.{stuff}
 use Rattle.shdlc.proofs.stuffed_len.Given as goal
 

@@ -1,5 +1,3 @@
--- `shdlc::sum_on` meets its contract. The invariant: the sum so far and that of the bytes left are the whole sum, modulo 256.
--- Assumes nothing.
 use mathlib.Core.Path.{◌∙◌}
 use Prim.Native.Nat.{◌<◌}
 use native.Mathlib.Omega.{arith}
@@ -8,6 +6,9 @@ use Rattle.shdlc.specs.Checksum.{sum}
 use Rattle.refusal.proofs.Rest.{rest_here, rest_end}
 use Rattle.shdlc.proofs.Body.{sum_step}
 use Rattle.shdlc.proofs.sum_on.Goals as goal
+
+pub loop-i-init : goal.loop-i-init
+loop-i-init c = (omega arith, c.wide-total.ensures.1, rw c.wide-total.ensures.0)
 
 pub loop-i-preserved : goal.loop-i-preserved
 unfolding sum
@@ -21,6 +22,3 @@ loop-i-preserved c =
 pub returns : goal.returns
 unfolding sum
 returns c = omega (arith, rw (rest_end _ _ c.loop-i-test.false) at c.loop-i.invariant.2)
-
-pub loop-i-init : goal.loop-i-init
-loop-i-init c = (omega arith, c.wide-total.ensures.1, rw c.wide-total.ensures.0)

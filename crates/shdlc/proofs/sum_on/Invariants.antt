@@ -1,8 +1,5 @@
--- `shdlc::sum_on` meets its contract. The invariant: the sum so far and that of the bytes left are the whole sum, modulo 256.
--- Assumes nothing.
-use mathlib.Core.Path.{◌≡◌}
-use Prim.Native.Nat.{◌+◌, ◌-◌, ◌%◌, ◌≤◌, ◌<◌}
-use lib.ListN.{length, drop}
+-- The sum so far and that of the bytes left are the whole sum, modulo 256.
+use Rattle.std.proofs.Common.{◌≡◌, ◌+◌, ◌-◌, ◌%◌, ◌≤◌, ◌<◌, length, drop}
 use Rattle.shdlc.specs.Checksum.{sum}
 use Rattle.shdlc.proofs.sum_on.Given as goal
 

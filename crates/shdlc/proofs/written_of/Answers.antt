@@ -1,4 +1,3 @@
--- `shdlc::written_of` meets its contract. Assumes nothing.
 use borrow.Author.Tests.{eq-eqb, ne_eqb}
 use Rattle.shdlc.specs.Paper.{written_of}
 use Rattle.shdlc.proofs.written_of.Goals as goal

@@ -1,5 +1,5 @@
--- `shdlc::runs::copy_run` meets its contract: the block that is written holds the first 16 bytes. Assumes nothing.
-use mathlib.Core.Path.{◌≡◌, sym, ap, ◌∙◌}
+-- The block that is written holds the first 16 bytes.
+use mathlib.Core.Path.{◌≡◌, ap, ◌∙◌}
 use Prim.Native.Nat.{◌≤◌}
 use native.Mathlib.Omega.{arith}
 use lib.ListN.{length, take, length-take}
@@ -9,9 +9,7 @@ use Rattle.refusal.proofs.Room.{overlay_all}
 use Rattle.shdlc.proofs.runs.copy_run.Goals as goal
 
 pub copy-requires : goal.copy-requires
-copy-requires c =
-    let l = c.args.bytes.now in
-    omega (arith, length-take 16 l)
+copy-requires c = omega (arith, length-take 16 c.args.bytes.now)
 
 pub returns-then-bytes-ge16 : goal.returns-then-bytes-ge16
 returns-then-bytes-ge16 c =
@@ -22,12 +20,4 @@ returns-then-bytes-ge16 c =
     (omega arith, many, c.copy-then-bytes-ge16.ensures ∙ ap (overlay a.out.now a.place) block)
 
 pub copy-requires-2 : goal.copy-requires-2
-copy-requires-2 c =
-    let a = c.args in
-    omega (arith, length-take a.n a.bytes.now)
-
-pub slice_bounds-copy-end-then-bytes-ge16 : goal.slice_bounds-copy-end-then-bytes-ge16
-slice_bounds-copy-end-then-bytes-ge16 c = sym (length-take-le 16 c.args.bytes.now (omega arith))
-
-pub slice_bounds-copy-end-2 : goal.slice_bounds-copy-end-2
-slice_bounds-copy-end-2 c = sym (length-take-le _ _ (omega arith))
+copy-requires-2 c = omega (arith, length-take c.args.n c.args.bytes.now)
