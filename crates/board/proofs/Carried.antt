@@ -1,12 +1,12 @@
 -- What the plan of an order does is what the order does. Assumes nothing.
 use mathlib.Core.Path.{◌≡◌, sym, ◌∙◌, ap, subst}
-use Prim.Native.Nat.{ℕ, ◌+◌, ◌-◌, ◌<◌, ◌≤◌}
+use Prim.Native.Nat.{ℕ, ◌+◌, ◌<◌, ◌≤◌}
 use native.Mathlib.Omega.{arith}
-use mathlib.Core.Bool.{Bool, true, false, not}
+use mathlib.Core.Bool.{Bool, true, false}
 use mathlib.Core.List.{List, map}
 use lib.ListN.{length, set, take}
 use lib.Seq.{take_all}
-use borrow.Author.Tests.{eq-eqb, ne_eqb, not_true, not_false}
+use borrow.Author.Tests.{eq-eqb, ne_eqb}
 use Rattle.refusal.specs.Refusals.{paper, served, refused}
 use Rattle.refusal.specs.declared.Refusal.{Refusal}
 use Rattle.refusal.specs.declared.Refusal.TheVariants.{NoRoom, BadRecord, OutOfRange, BoardFull}
@@ -131,19 +131,19 @@ module _ (n : ℕ) (good : Bool) (f : Found) (o : Order) (p : Plan) where
   plans_length h r = beside _ p n (λ t g v k. rw (ne_eqb (length t) 32 (λ x. h (sym g ∙ x))) (refused_does p NoRoom t r)) (within p _ n 0 0 0 r (omega arith) (omega arith) (omega arith))
 
   module _ (h : n ≡ 32) where
-    pub plans_bad : not good ≡ true → Fields p (answer.Refused BadRecord) 0 0 0 → Plans n good f o p
+    pub plans_bad : good ≡ false → Fields p (answer.Refused BadRecord) 0 0 0 → Plans n good f o p
     unfolding change
-    plans_bad b r = beside _ p n (λ t g v k. rw (eq-eqb (length t) 32 (g ∙ h), ← v, not_true good b) (refused_does p BadRecord t r)) (within p _ n 0 0 0 r (omega arith) (omega arith) (omega arith))
+    plans_bad b r = beside _ p n (λ t g v k. rw (eq-eqb (length t) 32 (g ∙ h), ← v, b) (refused_does p BadRecord t r)) (within p _ n 0 0 0 r (omega arith) (omega arith) (omega arith))
 
-    module _ (b : not good ≡ false) {w : Bool} (i : w ≡ order_in_range o) where
-      pub plans_out : not w ≡ true → Fields p (answer.Refused OutOfRange) 0 0 0 → Plans n good f o p
+    module _ (b : good ≡ true) {w : Bool} (i : w ≡ order_in_range o) where
+      pub plans_out : w ≡ false → Fields p (answer.Refused OutOfRange) 0 0 0 → Plans n good f o p
       unfolding change
-      plans_out m r = beside _ p n (λ t g v k. rw (eq-eqb (length t) 32 (g ∙ h), ← v, not_false good b, ← i, not_true w m) (refused_does p OutOfRange t r)) (within p _ n 0 0 0 r (omega arith) (omega arith) (omega arith))
+      plans_out m r = beside _ p n (λ t g v k. rw (eq-eqb (length t) 32 (g ∙ h), ← v, b, ← i, m) (refused_does p OutOfRange t r)) (within p _ n 0 0 0 r (omega arith) (omega arith) (omega arith))
 
-      pub plans_done : not w ≡ false → Carries (done o) (λ t. f ≡ found_in (take (sought_in 32 o) t) (sought_by o)) p → Plans n good f o p
+      pub plans_done : w ≡ true → Carries (done o) (λ t. f ≡ found_in (take (sought_in 32 o) t) (sought_by o)) p → Plans n good f o p
       unfolding change
       plans_done m c = (
-        λ t g v k. rw (eq-eqb (length t) 32 (g ∙ h), ← v, not_false good b, ← i, not_false w m) (c.0 t (g ∙ h) (subst (λ (x : ℕ). f ≡ found_in (take (sought_in x o) t) (sought_by o)) h k)),
+        λ t g v k. rw (eq-eqb (length t) 32 (g ∙ h), ← v, b, ← i, m) (c.0 t (g ∙ h) (subst (λ (x : ℕ). f ≡ found_in (take (sought_in x o) t) (sought_by o)) h k)),
         omega (arith, c.1, h),
         c.2,
         omega (arith, c.3, h),

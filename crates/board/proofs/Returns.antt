@@ -4,13 +4,12 @@ use Prim.Native.Nat.{ℕ, ◌+◌, ◌*◌, ◌<◌, ◌≤◌}
 use native.Mathlib.Omega.{arith}
 use mathlib.Core.Bool.{Bool, true, false, not, ◌&&◌}
 use lib.Dec.{leb, ltb}
-use borrow.Author.Tests.{not_false, leb-true}
+use borrow.Author.Tests.{not-false, leb-true}
 use Rattle.board.specs.declared.entries.Kind.{Kind}
 use Rattle.board.specs.declared.entries.Node.{Node}
 use Rattle.board.specs.declared.entries.Entry.{Entry}
 use Rattle.board.specs.declared.orders.Order.{Order}
 use Rattle.board.specs.declared.orders.Order.TheVariants.{Open}
-use Rattle.board.specs.declared.orders.Answer.TheVariants as answer
 use Rattle.board.specs.Entries.{node_in_range}
 use Rattle.board.specs.Orders.{lease_in_range, order_in_range}
 use Rattle.board.specs.Listing.{rank}
@@ -38,4 +37,4 @@ pub before_is : (x y : Entry) {a b : ℕ} → a ≡ rank x → b ≡ rank y → 
 before_is x y f g = rw (f, g)
 
 pub in_range_then : (o : Order) (w : Bool) → w ≡ order_in_range o → not w ≡ false → order_in_range o ≡ true
-in_range_then o w g m = sym g ∙ not_false w m
+in_range_then o w g m = sym g ∙ not-false w m

@@ -77,12 +77,19 @@ pub mapped_all : (f : Entry → Entry) (n : ℕ) (t : List Entry) → length t �
 unfolding mapped
 mapped_all f n t h = rw (sub-zero n, take_all n t h, drop_of_length-le t h) (append-nil (map f t))
 
--- a turn of a loop over 32 places, and its end
+-- a turn of a loop over the first n places, and its end
 pub mapped-more : (f : Entry → Entry) (from n : ℕ) (t : List Entry) (i : ℕ) (d : Entry) {q r : List Entry} {e : Entry}
-    → length t ≡ 32 → n ≤ 32 → from ≤ i → i < n → q ≡ mapped f from i t → r ≡ set q i e → e ≡ f (get_or t i d) → r ≡ mapped f from (i + 1) t
-mapped-more f from n t i d g k l h v u w =
+    → n ≤ length t → from ≤ i → i < n → q ≡ mapped f from i t → r ≡ set q i e → e ≡ f (get_or t i d) → r ≡ mapped f from (i + 1) t
+mapped-more f from n t i d k l h v u w =
     let inside : i < length t = omega arith in
     u ∙ (λ j. set (v j) i (w j)) ∙ mapped_step f from t i d l inside ∙ ap (λ (m : ℕ). mapped f from m t) (sym (add-one i))
+
+-- the same in place
+pub mapped_in : (f : Entry → Entry) (from n : ℕ) (t : List Entry) (i : ℕ) (d : Entry) {q : List Entry} {e : Entry}
+    → n ≤ length t → from ≤ i → i < n → q ≡ mapped f from i t → e ≡ f (get_or q i d) → set q i e ≡ mapped f from (i + 1) t
+mapped_in f from n t i d k l h v w =
+    let inside : i < length t = omega arith in
+    mapped-more f from n t i d k l h v refl (w ∙ ap (λ (x : List Entry). f (get_or x i d)) v ∙ ap f (mapped_next f from t i d l inside))
 
 pub mapped_end : (f : Entry → Entry) (from n : ℕ) (t : List Entry) (i : ℕ) {q : List Entry} → i ≤ n → n ≤ i → q ≡ mapped f from i t → q ≡ mapped f from n t
 mapped_end f from n t i l h v = let e : i ≡ n = omega arith in v ∙ ap (λ (m : ℕ). mapped f from m t) e

@@ -8,7 +8,7 @@ use lib.ListN.{length, get_or, set, drop, drop_of_length-le, length-set, replica
 use lib.Seq.{get_or-set_same, get_or-set_other, drop-cons}
 use lib.Bits.{bit_and, bit_or}
 use lib.Dec.{leb, ltb, eqb}
-use borrow.Author.Tests.{eq-eqb, ne_eqb, eqb-true, eqb-false, leb-true, leb-false, lt-ltb, le-ltb, le-leb, not_true, not_false}
+use borrow.Author.Tests.{eq-eqb, ne_eqb, eqb-true, eqb-false, leb-true, leb-false, lt-ltb, le-ltb, le-leb, not-true, not-false}
 use Rattle.board.specs.declared.entries.Entry.{Entry}
 use Rattle.board.specs.Entries.{is_free, has, is_kind, is_node, is_clear, entry_in_range, holds, again, valid}
 use Rattle.board.specs.Private.{node_place, mark}
@@ -22,7 +22,7 @@ node_place_is e f g = rw (f, g)
 -- ---- by the number of its node
 module _ (e : Entry) (n : ℕ) (is : (n ≡ node_place e) × (e.address < 256)) where
   pub entry_no_kind : {r : Bool} → r ≡ is_kind e.kind → not r ≡ true → false ≡ (is_kind e.kind && is_node e.bus e.address)
-  entry_no_kind {r} g f = rw (← g, not_true r f)
+  entry_no_kind {r} g f = rw (← g, not-true r f)
 
   place : n ≡ e.bus * 256 + e.address
   unfolding node_place
@@ -34,11 +34,11 @@ module _ (e : Entry) (n : ℕ) (is : (n ≡ node_place e) × (e.address < 256)) 
     entry_255 h =
         let z : e.bus ≡ 0 = omega (arith, place, h, is.1) in
         let a : e.address ≡ 255 = omega (arith, place, h, z) in
-        rw (← g, not_false r f, z, a)
+        rw (← g, not-false r f, z, a)
 
     pub entry-node : (n ≡ 255 → ⊥) → ltb n 384 ≡ (is_kind e.kind && is_node e.bus e.address)
     unfolding is_node
-    entry-node h = rw (← g, not_false r f) (go (eqb e.bus 0) refl (eqb e.bus 1) refl)
+    entry-node h = rw (← g, not-false r f) (go (eqb e.bus 0) refl (eqb e.bus 1) refl)
       where
         go : (x : Bool) → eqb e.bus 0 ≡ x → (y : Bool) → eqb e.bus 1 ≡ y → ltb n 384 ≡ (x && leb e.address 254 || y && leb e.address 127)
         go true u y w =
@@ -243,19 +243,19 @@ module _ (good : Bool) (seen : List ℕ) (e : Entry) where
 
   pub mark_out : {r : Bool} → (e.kind ≡ 0 → ⊥) → r ≡ (is_kind e.kind && is_node e.bus e.address) → not r ≡ true → ◌≡◌ {A = Bool × List ℕ} (false, seen) (mark good seen e)
   unfolding mark
-  mark_out {r} h g f = rw (ne_eqb e.kind 0 h, ← g, not_true r f)
+  mark_out {r} h g f = rw (ne_eqb e.kind 0 h, ← g, not-true r f)
 
   module _ {r : Bool} {n : ℕ} (h : e.kind ≡ 0 → ⊥) (g : r ≡ (is_kind e.kind && is_node e.bus e.address)) (f : not r ≡ false) (p : n ≡ node_place e) where
     pub mark_place : n < 384
-    mark_place = let b : node_place e < 384 = place_bound e (and_right (is_kind e.kind) _ (sym g ∙ not_false r f)) in omega (arith, b, p)
+    mark_place = let b : node_place e < 384 = place_bound e (and_right (is_kind e.kind) _ (sym g ∙ not-false r f)) in omega (arith, b, p)
 
     pub mark_in : good ≡ true → ◌≡◌ {A = Bool × List ℕ} (eqb (bit_and (get_or seen n 0) e.kind) 0, set seen n (bit_or (get_or seen n 0) e.kind)) (mark good seen e)
     unfolding mark
-    mark_in w = rw (ne_eqb e.kind 0 h, ← g, not_false r f, w, p)
+    mark_in w = rw (ne_eqb e.kind 0 h, ← g, not-false r f, w, p)
 
     pub mark_in_bad : good ≡ false → ◌≡◌ {A = Bool × List ℕ} (good, set seen n (bit_or (get_or seen n 0) e.kind)) (mark good seen e)
     unfolding mark
-    mark_in_bad w = rw (ne_eqb e.kind 0 h, ← g, not_false r f, w, p)
+    mark_in_bad w = rw (ne_eqb e.kind 0 h, ← g, not-false r f, w, p)
 
   pub mark-length : length (mark good seen e).1 ≡ length seen
   unfolding mark

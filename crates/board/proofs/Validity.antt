@@ -6,7 +6,7 @@ use mathlib.Core.Bool.{Bool, true, false, cond, not, ◌&&◌, ◌||◌}
 use mathlib.Core.List.{List, [], ◌∷◌, map}
 use lib.Dec.{eqb}
 use lib.ListN.{set}
-use borrow.Author.Tests.{eq-eqb, eqb-true, eqb-false, not_true}
+use borrow.Author.Tests.{eq-eqb, eqb-true, eqb-false, not-true}
 use Rattle.board.specs.declared.entries.Entry.{Entry}
 use Rattle.board.specs.Entries.{free, is_free, has, is_kind, is_node, is_clear, entry_in_range, place_of, holds, again, valid}
 use Rattle.board.specs.Orders.{freed, tick}
@@ -43,7 +43,7 @@ module _ (f : Entry → Bool) where
 module _ (e : Entry) (t : List Entry) where
   pub again-held : again e t ≡ true → is_free e ≡ false
   unfolding again
-  again-held h = not_true (is_free e) (and_left (not (is_free e)) _ h)
+  again-held h = not-true (is_free e) (and_left (not (is_free e)) _ h)
 
   pub again-holds : again e t ≡ true → holds (has e.kind e.bus e.address) t ≡ true
   unfolding again
@@ -74,7 +74,7 @@ module _ (e : Entry) (t : List Entry) where
 
     pub first_once : again e t ≡ false
     unfolding valid
-    first_once = not_true (again e t) (and_left (not (again e t)) _ (and_right (entry_in_range e) _ v))
+    first_once = not-true (again e t) (and_left (not (again e t)) _ (and_right (entry_in_range e) _ v))
 
     pub rest_valid : valid t ≡ true
     unfolding valid

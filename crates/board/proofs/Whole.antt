@@ -1,6 +1,6 @@
 -- An order on a table of any number of places, and a table that is read. Assumes nothing.
-use mathlib.Core.Path.{◌≡◌, refl, sym, ◌∙◌, ap}
-use Prim.Native.Nat.{ℕ, zero, suc, ◌-◌, ◌≤◌}
+use mathlib.Core.Path.{◌≡◌, refl, sym, ◌∙◌, ap, subst}
+use Prim.Native.Nat.{ℕ, zero, suc, ◌≤◌}
 use native.Mathlib.Omega.{arith}
 use mathlib.Core.Bool.{Bool, true, false, cond}
 use mathlib.Core.List.{List, []}
@@ -98,6 +98,16 @@ module _ (ys : List Entry) (o : Order) (answer polled from to : ℕ) (step : Ste
           → (answer, left_by polled from to step ys) ≡ numbered (change ys o)
       go true t h₁ h₂ = h₁ (eqb-true (length ys) 32 t)
       go false t h₁ h₂ = h₂ (eqb-false (length ys) 32 t)
+
+-- the same by what the calls gave
+pub decided_by : (ys : List Entry) (o : Order) (answer polled from to : ℕ) (step : Step) {n m : ℕ} {good : Bool} {k : Target} {f : Found}
+    → n ≡ places_of (length ys) → good ≡ valid (take n ys) → m ≡ sought_in n o → k ≡ sought_by o → f ≡ found_in (take m ys) k
+    → Acts n good f o answer polled from to step → Decided ys o answer polled from to step
+decided_by ys o answer polled from to step {n} {m} {good} {k} {f} en eg em ek ef a =
+    decided_is ys o answer polled from to step
+    (subst (λ (x : ℕ). Acts x (valid (take x ys)) (found_in (take (sought_in x o) ys) (sought_by o)) o answer polled from to step) en
+    (subst (λ (x : Bool). Acts n x (found_in (take (sought_in n o) ys) (sought_by o)) o answer polled from to step) eg
+    (subst (λ (x : Found). Acts n good x o answer polled from to step) (ef ∙ (λ j. found_in (take (em j) ys) (ek j))) a)))
 
 -- the same on places by value
 pub applied_is : (t : List Entry) (o : Order) (ans : Answer) (polled from to : ℕ) (step : Step) {good : Bool} {f : Found} {m : ℕ} {k : Target} {ps qs : List Entry} → length t ≡ 32 → good ≡ valid t → m ≡ sought_in 32 o → k ≡ sought_by o → f ≡ found_in (take m t) k

@@ -1,6 +1,6 @@
 -- 02 (i): the orders on the board, what each answers and what table it leaves.
 use Rattle.std.specs.Prelude.{ℕ, ◌-◌, Bool, true, false, cond, not, ◌&&◌, List, [], ◌∷◌, map, leb, eqb, length, set}
-use Rattle.refusal.specs.Refusals.{Numbered, number, number_in, paper, Answered, served, refused, in_order}
+use Rattle.refusal.specs.Refusals.{number, number_in, paper, Answered, served, refused, in_order}
 use Rattle.board.specs.declared.entries.Kind.{Kind}
 use Rattle.board.specs.declared.entries.Node.{Node}
 use Rattle.board.specs.declared.entries.Entry.{Entry}

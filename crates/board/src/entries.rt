@@ -110,6 +110,7 @@ pub fn no_entries() -> Places
     Places { rows: rows }
 }
 
+#[tactic(auto, unfolding(crate::specs::Entries::has))]
 pub(crate) fn has_numbers(e: Entry, kind: u8, bus: u8, address: u8) -> bool
     ensures { result ≡ has kind bus address e }
 {
@@ -122,6 +123,7 @@ pub(crate) fn has_numbers(e: Entry, kind: u8, bus: u8, address: u8) -> bool
     e.address == address
 }
 
+#[tactic(auto, unfolding(crate::specs::Entries::is_kind))]
 pub(crate) fn is_kind(n: u8) -> bool
     ensures { result ≡ is_kind n }
 {
@@ -131,6 +133,7 @@ pub(crate) fn is_kind(n: u8) -> bool
     n == CALIBRATION
 }
 
+#[tactic(auto, unfolding(crate::specs::Entries::is_clear))]
 pub(crate) fn is_clear(e: Entry) -> bool
     ensures { result ≡ is_clear e }
 {

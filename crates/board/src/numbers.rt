@@ -6,6 +6,7 @@ ghost use Rattle.board.specs.Numbers.{is_bus, bus_of, kind_of, node_of, open_by,
 use crate::entries::{Bus, I2C, Kind, Node, SERIAL, VALVE, is_kind};
 use crate::orders::Order;
 
+#[tactic(auto, unfolding(crate::specs::Numbers::is_bus))]
 fn is_bus(n: u8) -> bool
     ensures { result ≡ is_bus n }
 {
@@ -15,6 +16,7 @@ fn is_bus(n: u8) -> bool
     n == I2C
 }
 
+#[tactic(auto, unfolding(crate::specs::Numbers::bus_of))]
 fn bus_of(n: u8) -> Bus
     ensures { result ≡ bus_of n }
 {
@@ -24,6 +26,7 @@ fn bus_of(n: u8) -> Bus
     Bus::I2c
 }
 
+#[tactic(auto, unfolding(crate::specs::Numbers::kind_of))]
 fn kind_of(n: u8) -> Kind
     ensures { result ≡ kind_of n }
 {

@@ -102,6 +102,7 @@ fn order_in_range(o: Order) -> bool
     }
 }
 
+#[tactic(auto, unfolding(crate::specs::Orders::freed))]
 fn freed_of(e: Entry, k: Target) -> Entry
     ensures { result ≡ freed (has k.kind k.bus k.address) e }
 {
@@ -111,6 +112,7 @@ fn freed_of(e: Entry, k: Target) -> Entry
     e
 }
 
+#[tactic(auto, unfolding(crate::specs::Orders::freed, crate::specs::Private::on_numbers))]
 fn freed_on(e: Entry, bus: u8, address: u8) -> Entry
     ensures { result ≡ freed (on_numbers bus address) e }
 {

@@ -27,6 +27,7 @@ fn wide(n: u8) -> usize
 }
 
 // A node by a number: serial from 0 to 254, I2C from 256 to 383.
+#[tactic(auto, unfolding(crate::specs::Private::node_place))]
 fn node_place(e: Entry) -> usize
     ensures { (result ≡ node_place e) × (e.address < 256) }
 {
@@ -34,6 +35,7 @@ fn node_place(e: Entry) -> usize
 }
 
 // Whether kind, bus and address are such as a node's entry has.
+#[tactic(auto, unfolding(crate::specs::Private::node_place, crate::specs::Entries::is_node))]
 fn is_entry(e: Entry, n: usize) -> bool
     requires { (n ≡ node_place e) × (e.address < 256) }
     ensures { result ≡ (is_kind e.kind && is_node e.bus e.address) }
@@ -49,6 +51,7 @@ fn is_entry(e: Entry, n: usize) -> bool
 
 // The kinds seen of a node are the bits of its number. One place more: what is good stays so where it is free, or its entry is in range and
 // was not seen.
+#[tactic(auto, unfolding(crate::specs::Private::mark))]
 pub(crate) fn mark(seen: &mut [u8; 384], good: bool, e: Entry) -> bool
     ensures { (result, seen.new) ≡ mark good seen.old e }
 {
@@ -85,6 +88,7 @@ fn first_of(hit: bool, i: usize, later: usize) -> usize
 }
 
 // What is found from place i on, where e stands.
+#[tactic(auto, unfolding(crate::specs::Private::nearer))]
 pub(crate) fn nearer(later: Found, e: Entry, i: usize, k: Target) -> Found
     ensures { result ≡ nearer later e i k }
 {
