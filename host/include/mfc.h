@@ -43,7 +43,7 @@
 extern "C" {
 #endif
 
-/* Sizes, start values, and the kinds of a log's records and the marks of two logs. */
+/* Sizes, start values, the kinds of a log's records, and the marks of two logs compared. */
 enum {
     /* The bytes of a receiver's record. */
     MFC_RECORD_SIZE = 268,
