@@ -1,5 +1,5 @@
 -- The answers of the command writers: one law for each `return`. Assumes nothing.
-use mathlib.Core.Path.{◌≡◌, sym, ap, ◌∙◌}
+use mathlib.Core.Path.{◌≡◌, ◌∙◌}
 use mathlib.Core.List.{List, [], ◌∷◌}
 use Prim.Native.Nat.{ℕ, ◌/◌, ◌%◌, ◌≤◌, ◌<◌}
 use borrow.Author.Tests.{le-leb, lt-leb}
@@ -8,19 +8,13 @@ use Rattle.refusal.specs.Room.{emit}
 use Rattle.i2c.specs.Answer.{Outcome, refuse}
 use Rattle.i2c.specs.Crc.{crc_of}
 use Rattle.i2c.specs.Word.{word_bytes}
-use Rattle.i2c.specs.Command.{alone, ◌taking◌, asked, pair, write_sfc6, liquid_bytes}
-use Rattle.i2c.specs.declared.command.Sfc6.{Sfc6}
-use Rattle.i2c.specs.declared.command.Liquid.{Liquid}
+use Rattle.i2c.specs.Command.{alone, ◌taking◌, write_sfc6}
 
--- bytes that were computed, written: the parts of a code, of a register's value, and of a concentration with its CRC
+-- bytes that were computed, written: the parts of a code, and of a concentration with its CRC
 module _ (lent : List ℕ) {o : Outcome} where
   pub alone-written : (code u v : ℕ) → u ≡ code / 256 → v ≡ code % 256 → o ≡ emit (u ∷ v ∷ []) lent → o ≡ write_sfc6 (alone code) lent
   unfolding write_sfc6
   alone-written code u v e f p = p ∙ rw (e, f)
-
-  pub register-written : (code value u v : ℕ) → u ≡ value / 256 → v ≡ value % 256 → o ≡ emit (code ∷ u ∷ v ∷ []) lent
-      → o ≡ emit (code ∷ pair value) lent
-  register-written code value u v e f p = p ∙ rw (e, f)
 
   pub taking-written : (code x s t u v w : ℕ) → x ≤ 1000 → s ≡ code / 256 → t ≡ code % 256 → u ≡ x / 256 → v ≡ x % 256
       → w ≡ crc_of 0xFF (u ∷ v ∷ []) → o ≡ emit (s ∷ t ∷ u ∷ v ∷ w ∷ []) lent → o ≡ write_sfc6 (code taking x) lent
@@ -30,12 +24,3 @@ module _ (lent : List ℕ) {o : Outcome} where
 pub taking_too_much : (code x : ℕ) (lent : List ℕ) → 1000 < x → refuse (number 12) lent ≡ write_sfc6 (code taking x) lent
 unfolding write_sfc6
 taking_too_much code x lent h = rw (lt-leb x 1000 h)
-
--- an arm of a `match`: what holds of the command that the arm is told holds of the command given
-pub sfc6_arm : {command told : Sfc6} (lent : List ℕ) {x : Outcome} → command ≡ told → x ≡ write_sfc6 (asked told) lent
-    → x ≡ write_sfc6 (asked command) lent
-sfc6_arm lent e p = p ∙ ap (λ (q : Sfc6). write_sfc6 (asked q) lent) (sym e)
-
-pub liquid_arm : {command told : Liquid} (lent : List ℕ) {x : Outcome} → command ≡ told → x ≡ emit (liquid_bytes told) lent
-    → x ≡ emit (liquid_bytes command) lent
-liquid_arm lent e p = p ∙ ap (λ (q : Liquid). emit (liquid_bytes q) lent) (sym e)

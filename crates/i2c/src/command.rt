@@ -72,6 +72,7 @@ fn write_alone(code: u16, out: &mut [u8]) -> Stored
 }
 
 // A command and a concentration: a word with CRC.
+#[tactic(auto, using(crate::proofs::CommandAnswers::taking_too_much))]
 fn write_taking(code: u16, concentration: u32, out: &mut [u8]) -> Stored
     ensures { (paper_stored result, out.new) ≡ write_sfc6 (code taking concentration) out.old }
 {

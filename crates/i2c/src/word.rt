@@ -77,7 +77,7 @@ fn check_by(table: &[u8; 256], start: u8, bytes: &[u8]) -> Checked
     requires { Steps 8 table.now }
     ensures { paper_checked result ≡ first_wrong start bytes.now }
 {
-    let mut k = 0;
+    let mut k: usize = 0;
     let mut i = 0;
     while i + 2 < bytes.len() {
         if pair_by(table, start, bytes[i], bytes[i + 1]) != bytes[i + 2] {

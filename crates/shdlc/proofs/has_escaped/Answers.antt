@@ -26,9 +26,6 @@ found-longer found m n e = go (ltb m n) refl
     go true h = let l = ltb-true m n h in rw (ne_eqb found 0 (λ z. omega arith))
     go false h = let l = ltb-false m n h in rw (eq-eqb found 0 (omega arith))
 
-pub loop-i-init : goal.loop-i-init
-loop-i-init c = (omega arith, omega arith, omega arith)
-
 pub loop-i-preserved : goal.loop-i-preserved
 loop-i-preserved c =
     let l = c.args.bytes.now in

@@ -4,9 +4,6 @@ use Rattle.shdlc.proofs.Stuffing.{byte_short}
 use Rattle.shdlc.proofs.Frame.{parts_longer}
 use Rattle.shdlc.proofs.is_longer.Goals as goal
 
-pub overflow_sub-total : goal.overflow_sub-total
-overflow_sub-total c = omega (arith, c.sum_on-total.ensures)
-
 pub overflow_add-result : goal.overflow_add-result
 overflow_add-result c = omega (arith, c.stuffed_size.ensures, (byte_short (255 - c.sum_on-total.result)).1)
 

@@ -60,9 +60,6 @@ finish-requires c =
     end_fits body c.args.out.now fits _ _ _ sums
     (laid c.args.first.now c.args.second.now c.args.third.now c.args.out.now fits _ _ _ _ _ _ (e.0, e.2) (f.0, f.2) (g.0, g.2)) kept
 
-pub shape_of-out : goal.shape_of-out
-shape_of-out c = omega (arith, length-set c.args.out.now 0 0x7E)
-
 pub returns : goal.returns
 returns c =
     let e = c.put_stuffed-a.ensures in

@@ -29,11 +29,6 @@ pub returns-then-out-place : goal.returns-then-out-place
 returns-then-out-place c = put_refused c.args.out.now c.args.place c.args.b (omega (arith, (byte_short c.args.b).0, c.if-out-place.true))
 
 -- one byte is left, which holds a byte that goes as it is
-pub put_byte-requires-2 : goal.put_byte-requires-2
-put_byte-requires-2 c =
-    let plain : length (stuff_byte c.args.b) ≡ 1 = ap length (sent_plain _ c.is_escaped.ensures c.if-is_escaped.false) in
-    omega (arith, c.if-out-place.false)
-
 pub returns : goal.returns
 returns c =
     let plain : length (stuff_byte c.args.b) ≡ 1 = ap length (sent_plain _ c.is_escaped.ensures c.if-is_escaped.false) in

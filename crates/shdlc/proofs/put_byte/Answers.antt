@@ -3,7 +3,7 @@ use mathlib.Core.List.{List, [], ◌∷◌}
 use Prim.Native.Nat.{ℕ, ◌+◌, ◌≤◌, ◌<◌}
 use native.Mathlib.Omega.{arith}
 use lib.Bits.{bit_xor}
-use lib.ListN.{length, set, length-set}
+use lib.ListN.{length, set}
 use lib.Seq.{set-set}
 use Rattle.refusal.specs.Room.{overlay}
 use Rattle.refusal.proofs.Room.{set-overlay, set-two}
@@ -34,16 +34,6 @@ module _ (out : List ℕ) (place b : ℕ) where
 
 pub bounds-out-place : goal.bounds-out-place
 bounds-out-place c = room c.args.out.now c.args.place c.args.b c.requires
-
-pub overflow_add-next : goal.overflow_add-next
-overflow_add-next c = omega (arith, ap length (sent_escaped _ c.is_escaped.ensures c.if-is_escaped.true))
-
-pub bounds-out-next : goal.bounds-out-next
-bounds-out-next c =
-    simp length-set (fits-two c.args.out.now c.args.place c.args.b (sent_escaped _ c.is_escaped.ensures c.if-is_escaped.true) c.requires)
-
-pub overflow_add-result : goal.overflow_add-result
-overflow_add-result c = omega (arith, ap length (sent_escaped _ c.is_escaped.ensures c.if-is_escaped.true))
 
 pub returns-then-is_escaped : goal.returns-then-is_escaped
 returns-then-is_escaped c = escaped-laid c.args.out.now c.args.place c.args.b (sent_escaped _ c.is_escaped.ensures c.if-is_escaped.true) c.requires

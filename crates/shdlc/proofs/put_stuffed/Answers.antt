@@ -1,4 +1,4 @@
-use mathlib.Core.Path.{refl, sym, ◌∙◌}
+use mathlib.Core.Path.{sym, ◌∙◌}
 use Prim.Native.Nat.{◌≤◌, ◌<◌}
 use native.Mathlib.Omega.{arith}
 use lib.ListN.{length}
@@ -8,9 +8,6 @@ use Rattle.refusal.proofs.Rest.{rest_here, rest_end}
 use Rattle.shdlc.proofs.Body.{sum_step}
 use Rattle.shdlc.proofs.Stuffing.{stuff_nothing, stuff_here, length_here}
 use Rattle.shdlc.proofs.put_stuffed.Goals as goal
-
-pub loop-i-init : goal.loop-i-init
-loop-i-init c = (omega arith, refl, refl, refl, c.ranges.start.fits, refl)
 
 pub put_byte-o-requires : goal.put_byte-o-requires
 put_byte-o-requires c = omega (arith, length_here c.args.bytes.now c.loop-i.i (omega arith))

@@ -7,9 +7,6 @@ use Rattle.refusal.proofs.Rest.{rest_here, rest_end}
 use Rattle.shdlc.proofs.Body.{sum_step}
 use Rattle.shdlc.proofs.sum_on.Goals as goal
 
-pub loop-i-init : goal.loop-i-init
-loop-i-init c = (omega arith, c.wide-total.ensures.1, rw c.wide-total.ensures.0)
-
 pub loop-i-preserved : goal.loop-i-preserved
 unfolding sum
 loop-i-preserved c =

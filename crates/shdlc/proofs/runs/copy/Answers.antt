@@ -1,7 +1,7 @@
-use mathlib.Core.Path.{◌≡◌, refl, sym, ap, ◌∙◌}
+use mathlib.Core.Path.{◌≡◌, sym, ◌∙◌}
 use mathlib.Core.List.{List}
 use Prim.Native.Nat.{ℕ, ◌+◌, ◌<◌}
-use native.Mathlib.Nat.{add-zero, add_assoc}
+use native.Mathlib.Nat.{add_assoc}
 use native.Mathlib.Omega.{arith}
 use lib.ListN.{length, get_or, drop, set, length-set}
 use Rattle.refusal.specs.Room.{overlay}
@@ -11,9 +11,6 @@ use Rattle.shdlc.proofs.runs.copy.Goals as goal
 more : (out l : List ℕ) (place i : ℕ) → i < length l → place + i < length out
     → overlay (set out (place + i) (get_or l i 0)) (place + (i + 1)) (drop (i + 1) l) ≡ overlay out (place + i) (drop i l)
 more out l place i h g = rw (← add_assoc place i 1) (write_here out l (place + i) i h g)
-
-pub loop-i-init : goal.loop-i-init
-loop-i-init c = (omega arith, refl, ap (λ (p : ℕ). overlay c.args.out.now p c.args.bytes.now) (add-zero c.args.place))
 
 pub loop-i-preserved : goal.loop-i-preserved
 loop-i-preserved c =

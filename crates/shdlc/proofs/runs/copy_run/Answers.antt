@@ -2,14 +2,11 @@
 use mathlib.Core.Path.{◌≡◌, ap, ◌∙◌}
 use Prim.Native.Nat.{◌≤◌}
 use native.Mathlib.Omega.{arith}
-use lib.ListN.{length, take, length-take}
+use lib.ListN.{length, take}
 use lib.Seq.{length-take-le}
 use Rattle.refusal.specs.Room.{overlay}
 use Rattle.refusal.proofs.Room.{overlay_all}
 use Rattle.shdlc.proofs.runs.copy_run.Goals as goal
-
-pub copy-requires : goal.copy-requires
-copy-requires c = omega (arith, length-take 16 c.args.bytes.now)
 
 pub returns-then-bytes-ge16 : goal.returns-then-bytes-ge16
 returns-then-bytes-ge16 c =
@@ -18,6 +15,3 @@ returns-then-bytes-ge16 c =
     let block : c.copy.new.out ≡ take 16 a.bytes.now =
     c.copy.ensures ∙ overlay_all _ (take 16 a.bytes.now) (length-take-le 16 a.bytes.now many) in
     (omega arith, many, c.copy-then-bytes-ge16.ensures ∙ ap (overlay a.out.now a.place) block)
-
-pub copy-requires-2 : goal.copy-requires-2
-copy-requires-2 c = omega (arith, length-take c.args.n c.args.bytes.now)

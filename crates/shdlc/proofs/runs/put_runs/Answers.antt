@@ -38,9 +38,6 @@ module _ (out l : List ℕ) (o i : ℕ) (within : i ≤ length l) (fits : o + le
   whole-rest : take (length l - i) (drop i l) ≡ drop i l
   whole-rest = take_all (length l - i) (drop i l) (rw (length-drop i l) (omega arith))
 
-  left : length (drop i l) ≡ length l - i
-  left = length-drop i l
-
   run-laid : (n m : ℕ) → n ≡ run_of (drop i l) → n ≤ m → m ≤ length (drop i l)
       → overlay (overlay out o (take m (drop i l))) (o + n) (stuff (drop (i + n) l)) ≡ overlay out o (stuff (drop i l))
   run-laid n m e h k =
@@ -56,23 +53,11 @@ bounds-out-o c =
     let t = two l.out c.args.bytes.now l.o l.i (omega arith) (sent_escaped _ c.is_escaped.ensures c.if-is_escaped.true) (omega arith) in
     omega (arith, t)
 
-pub overflow_add-next : goal.overflow_add-next
-overflow_add-next c =
-    let l = c.loop-i in
-    let t = two l.out c.args.bytes.now l.o l.i (omega arith) (sent_escaped _ c.is_escaped.ensures c.if-is_escaped.true) (omega arith) in
-    omega (arith, t)
-
 pub bounds-out-next : goal.bounds-out-next
 bounds-out-next c =
     let l = c.loop-i in
     let t = two l.out c.args.bytes.now l.o l.i (omega arith) (sent_escaped _ c.is_escaped.ensures c.if-is_escaped.true) (omega arith) in
     simp length-set t
-
-pub overflow_add-o : goal.overflow_add-o
-overflow_add-o c =
-    let l = c.loop-i in
-    let t = two l.out c.args.bytes.now l.o l.i (omega arith) (sent_escaped _ c.is_escaped.ensures c.if-is_escaped.true) (omega arith) in
-    omega (arith, t)
 
 pub loop-i-preserved-then-is_escaped : goal.loop-i-preserved-then-is_escaped
 loop-i-preserved-then-is_escaped c =
