@@ -1,39 +1,34 @@
 -- What the plan of an order does is what the order does. Assumes nothing.
-use mathlib.Core.Path.{◌≡◌, sym, ◌∙◌, ap, subst}
-use Prim.Native.Nat.{ℕ, ◌+◌, ◌<◌, ◌≤◌}
+use mathlib.Core.Path.{◌≡◌, refl, sym, ◌∙◌, ap, subst}
+use Prim.Native.Nat.{ℕ, ◌<◌, ◌≤◌}
 use native.Mathlib.Omega.{arith}
 use mathlib.Core.Bool.{Bool, true, false}
 use mathlib.Core.List.{List, map}
 use lib.ListN.{length, set, take}
-use lib.Seq.{take_all}
 use borrow.Author.Tests.{eq-eqb, ne_eqb}
-use Rattle.refusal.specs.Refusals.{paper, served, refused}
+use Rattle.refusal.specs.Refusals.{number, paper, served, refused}
 use Rattle.refusal.specs.declared.Refusal.{Refusal}
-use Rattle.refusal.specs.declared.Refusal.TheVariants.{NoRoom, BadRecord, OutOfRange, BoardFull}
+use Rattle.refusal.specs.declared.Refusal.TheVariants.{NoRoom, BadRecord, OutOfRange}
 use Rattle.board.specs.declared.entries.Kind.{Kind}
 use Rattle.board.specs.declared.entries.Node.{Node}
 use Rattle.board.specs.declared.entries.Entry.{Entry}
 use Rattle.board.specs.declared.survey.Target.{Target}
 use Rattle.board.specs.declared.survey.Found.{Found}
 use Rattle.board.specs.declared.orders.Order.{Order}
-use Rattle.board.specs.declared.orders.Order.TheVariants.{Open}
 use Rattle.board.specs.declared.orders.Answer.{Answer}
 use Rattle.board.specs.declared.orders.Answer.TheVariants as answer
 use Rattle.board.specs.declared.orders.Step.{Step}
-use Rattle.board.specs.declared.orders.Step.TheVariants.{Put, Free, FreeNode}
+use Rattle.board.specs.declared.orders.Step.TheVariants.{Free, FreeNode}
 use Rattle.board.specs.declared.orders.Plan.{Plan}
-use Rattle.board.specs.Entries.{bus_number, entry_of, is_free, is_of, on_node, place_of, valid}
-use Rattle.board.specs.Orders.{Outcome, order_in_range, opened, freed, tick, done, change, paper_answer, number_if, numbered}
-use Rattle.board.specs.Private.{has_numbers, found_in, on_numbers, step_of, steps, polled_in, target_of, sought_by, sought_in, left_by, Carries, Plans, Acts}
+use Rattle.board.specs.Entries.{bus_number, entry_of, is_free, is_of, on_node, place_of}
+use Rattle.board.specs.Orders.{Outcome, order_in_range, opened, freed, tick, done, change, paper_answer}
+use Rattle.board.specs.Private.{has_numbers, found_in, on_numbers, step_of, steps, polled_in, target_of, sought_by, sought_in, left_by, Carries, Plans}
 use Rattle.board.proofs.Turns.{holds_at, holds_none}
 use Rattle.board.proofs.Runs.{polled_none, polled_all, steps_none, steps-one, steps_all}
 
 -- ---- no place, one, and all
 pub left_none : (s : Step) (t : List Entry) → left_by 0 0 0 s t ≡ t
 left_none s t = steps_none 0 s (polled_in 0 t) ∙ polled_none t
-
-left_one : (i : ℕ) (e : Entry) (t : List Entry) → i < length t → left_by 0 i (i + 1) (Put e) t ≡ set t i e
-left_one i e t l = ap (steps i (i + 1) (Put e)) (polled_none t) ∙ steps-one i e t l
 
 left_all : (s : Step) (t : List Entry) → length t ≡ 32 → left_by 0 0 32 s t ≡ map (step_of s) t
 left_all s t g = ap (steps 0 32 s) (polled_none t) ∙ steps_all s t g
@@ -64,47 +59,21 @@ module _ (p : Plan) where
   within : (ans : Answer) (n polled from to : ℕ) → Fields p ans polled from to → polled ≤ n → from ≤ to → to ≤ n → Bounds p n
   within ans n polled from to f a b c = (omega (arith, f.1, a), omega (arith, f.2, f.3, b), omega (arith, f.3, c))
 
--- ---- opening
-module _ (f : Found) (node : Node) (kind : Kind) (lease : ℕ) {e : Entry} (is : e ≡ entry_of node kind lease) (p : Plan) where
-  abbrev Known : List Entry → Type 0
-  Known t = f ≡ found_in t (target_of node kind)
-
-  put_in : {i : ℕ} → (p.answer ≡ answer.Done) × (p.polled ≡ 0) × (p.from ≡ i) × (p.to ≡ i + 1) × (p.step ≡ Put e) → (t : List Entry) → i < length t
-      → ◌≡◌ {A = Outcome} (paper_answer p.answer, left_by p.polled p.from p.to p.step t) (served tt, set t i (entry_of node kind lease))
-  put_in {i} r t l =
-      (λ j. (paper_answer (r.0 j), left_by (r.1 j) (r.2 j) (r.3 j) ((r.4 ∙ ap Put is) j) t)) ∙ (λ j. (served tt, left_one i (entry_of node kind lease) t l j))
-
-  put_within : {i : ℕ} → i < 32 → (p.answer ≡ answer.Done) × (p.polled ≡ 0) × (p.from ≡ i) × (p.to ≡ i + 1) × (p.step ≡ Put e) → Bounds p 32
-  put_within {i} l r = (omega (arith, r.1), omega (arith, r.2, r.3), omega (arith, r.3, l))
-
-  pub opens_renewed : f.held < 32 → (p.answer ≡ answer.Done) × (p.polled ≡ 0) × (p.from ≡ f.held) × (p.to ≡ f.held + 1) × (p.step ≡ Put e) → Carries (opened node kind lease) Known p
+-- ---- opening: the entry stands there, it takes the first free place, or there is none
+module _ (node : Node) (kind : Kind) (lease : ℕ) (t : List Entry) where
+  pub opened_there : place_of (is_of node kind) t < length t → opened node kind lease t ≡ (served tt, set t (place_of (is_of node kind) t) (entry_of node kind lease))
   unfolding opened
-  opens_renewed l r = beside _ p 32 go (put_within l r)
-    where
-      go : (t : List Entry) → length t ≡ 32 → Known t → (paper_answer p.answer, left_by p.polled p.from p.to p.step t) ≡ opened node kind lease t
-      go t g k =
-          let at : f.held ≡ place_of (is_of node kind) t = ap (λ (x : Found). x.held) k in
-          rw (holds_at (is_of node kind) t 32 f.held g at l) (put_in r t (omega (arith, l, g)) ∙ (λ j. (served tt, set t (at j) (entry_of node kind lease))))
+  opened_there l = rw (holds_at (is_of node kind) t (length t) _ refl refl l)
 
-  pub opens_placed : 32 ≤ f.held → f.free < 32 → (p.answer ≡ answer.Done) × (p.polled ≡ 0) × (p.from ≡ f.free) × (p.to ≡ f.free + 1) × (p.step ≡ Put e) → Carries (opened node kind lease) Known p
+  pub opened_placed : length t ≤ place_of (is_of node kind) t → place_of is_free t < length t → opened node kind lease t ≡ (served tt, set t (place_of is_free t) (entry_of node kind lease))
   unfolding opened
-  opens_placed m l r = beside _ p 32 go (put_within l r)
-    where
-      go : (t : List Entry) → length t ≡ 32 → Known t → (paper_answer p.answer, left_by p.polled p.from p.to p.step t) ≡ opened node kind lease t
-      go t g k =
-          let at : f.held ≡ place_of (is_of node kind) t = ap (λ (x : Found). x.held) k in
-          let free-at : f.free ≡ place_of is_free t = ap (λ (x : Found). x.free) k in
-          rw (holds_none (is_of node kind) t 32 f.held g at m, holds_at is_free t 32 f.free g free-at l) (put_in r t (omega (arith, l, g)) ∙ (λ j. (served tt, set t (free-at j) (entry_of node kind lease))))
+  opened_placed m l = rw (holds_none (is_of node kind) t (length t) _ refl refl m, holds_at is_free t (length t) _ refl refl l)
 
-  pub opens_full : 32 ≤ f.held → 32 ≤ f.free → Fields p (answer.Refused BoardFull) 0 0 0 → Carries (opened node kind lease) Known p
+  pub opened_full : length t ≤ place_of (is_of node kind) t → length t ≤ place_of is_free t → opened node kind lease t ≡ (refused (number 19), t)
   unfolding opened
-  opens_full m l r = beside _ p 32 go (within p _ 32 0 0 0 r (omega arith) (omega arith) (omega arith))
-    where
-      go : (t : List Entry) → length t ≡ 32 → Known t → (paper_answer p.answer, left_by p.polled p.from p.to p.step t) ≡ opened node kind lease t
-      go t g k =
-          let at : f.held ≡ place_of (is_of node kind) t = ap (λ (x : Found). x.held) k in
-          let free-at : f.free ≡ place_of is_free t = ap (λ (x : Found). x.free) k in
-          rw (holds_none (is_of node kind) t 32 f.held g at m, holds_none is_free t 32 f.free g free-at l) (refused_does p BoardFull t r)
+  opened_full m l = rw (holds_none (is_of node kind) t (length t) _ refl refl m, holds_none is_free t (length t) _ refl refl l)
+
+pub ruleset opening = (polled_none, steps_none, steps-one, opened_there, opened_placed, opened_full)
 
 -- ---- the other orders
 module _ (Known : List Entry → Type 0) (p : Plan) where
@@ -153,18 +122,3 @@ module _ (n : ℕ) (good : Bool) (f : Found) (o : Order) (p : Plan) where
 pub for_order : (f : Found) (o other : Order) (p : Plan) → o ≡ other → Carries (done other) (λ t. f ≡ found_in (take (sought_in 32 other) t) (sought_by other)) p
     → Carries (done o) (λ t. f ≡ found_in (take (sought_in 32 o) t) (sought_by o)) p
 for_order f o other p e c = subst (λ (x : Order). Carries (done x) (λ t. f ≡ found_in (take (sought_in 32 x) t) (sought_by x)) p) (sym e) c
-
--- a plan that needs to know nothing
-pub whatever_known : (asked : List Entry → Outcome) (Known : List Entry → Type 0) (p : Plan) → Carries asked (λ t. Unit {0}) p → Carries asked Known p
-whatever_known asked Known p c = (λ t g k. c.0 t g tt, c.1, c.2, c.3)
-
--- an opening looks through all places
-pub open_known : (f : Found) (node : Node) (kind : Kind) (lease : ℕ) (p : Plan) → Carries (opened node kind lease) (λ t. f ≡ found_in t (target_of node kind)) p
-    → Carries (done (Open node kind lease)) (λ t. f ≡ found_in (take 32 t) (target_of node kind)) p
-open_known f node kind lease p c = (λ t g k. c.0 t g (k ∙ ap (λ (x : List Entry). found_in x (target_of node kind)) (take_all 32 t (omega (arith, g)))), c.1, c.2, c.3)
-
--- ---- by the answer's number
-pub acts_is : (n : ℕ) (good : Bool) (f : Found) (o : Order) (ans : Answer) (polled from to : ℕ) (step : Step) {m : ℕ} → m ≡ number_if (paper_answer ans)
-    → ((t : List Entry) → length t ≡ n → good ≡ valid t → f ≡ found_in (take (sought_in n o) t) (sought_by o) → (paper_answer ans, left_by polled from to step t) ≡ change t o)
-    × (polled ≤ n) × (from ≤ to) × (to ≤ n) → Acts n good f o m polled from to step
-acts_is n good f o ans polled from to step u c = (λ t g v k. (λ j. (u j, left_by polled from to step t)) ∙ ap numbered (c.0 t g v k), c.1, c.2, c.3)

@@ -7,15 +7,12 @@ pub mod Ranks
 pub mod Sorting
 pub mod Handover
 pub mod Worked
-pub mod Leaves
 pub mod Walk
 pub mod Runs
 pub mod Kept
 pub mod Turns
 pub mod Seen
 pub mod Carried
-pub mod Returns
 pub mod Whole
-pub mod Named
 pub mod Lists
 pub mod Sought

@@ -62,13 +62,6 @@ module _ (f : Entry → Entry) (from : ℕ) (t : List Entry) where
       ∙ ap (λ (r : List Entry). r ++ drop (suc i) t) (sym (done_step i d l h))
       ∙ sym (mapped_is (suc i))
 
-  pub mapped-length : (i : ℕ) → from ≤ i → i ≤ length t → length (mapped f from i t) ≡ length t
-  mapped-length i l h =
-      ap length (mapped_is i)
-      ∙ length-append (done_to i) (drop i t)
-      ∙ (λ j. done-length i l h j + length-drop i t j)
-      ∙ add-sub_of_le h
-
   pub mapped_none : mapped f from from t ≡ t
   unfolding mapped
   mapped_none = rw (sub_self from) (take-append-drop from t)
@@ -108,9 +101,6 @@ polled_none t = sym (polled_is 0 t) ∙ mapped_none tick 0 t
 
 pub polled_all : (t : List Entry) → length t ≡ 32 → polled_in 32 t ≡ map tick t
 polled_all t g = let h : length t ≤ 32 = omega arith in sym (polled_is 32 t) ∙ mapped_all tick 32 t h
-
-pub polled-length : (n : ℕ) (t : List Entry) → n ≤ length t → length (polled_in n t) ≡ length t
-polled-length n t h = ap length (sym (polled_is n t)) ∙ mapped-length tick 0 t n (omega arith) h
 
 pub steps_none : (i : ℕ) (s : Step) (t : List Entry) → steps i i s t ≡ t
 steps_none i s t = sym (steps_is i i s t) ∙ mapped_none (step_of s) i t

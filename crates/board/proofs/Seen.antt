@@ -7,56 +7,13 @@ use mathlib.Core.List.{List, [], ◌∷◌}
 use lib.ListN.{length, get_or, set, drop, drop_of_length-le, length-set, replicate, length-replicate, get_or-replicate}
 use lib.Seq.{get_or-set_same, get_or-set_other, drop-cons}
 use lib.Bits.{bit_and, bit_or}
-use lib.Dec.{leb, ltb, eqb}
-use borrow.Author.Tests.{eq-eqb, ne_eqb, eqb-true, eqb-false, leb-true, leb-false, lt-ltb, le-ltb, le-leb, not-true, not-false}
+use lib.Dec.{leb, eqb}
+use borrow.Author.Tests.{eq-eqb, ne_eqb, eqb-true, eqb-false, leb-true}
 use Rattle.board.specs.declared.entries.Entry.{Entry}
 use Rattle.board.specs.Entries.{is_free, has, is_kind, is_node, is_clear, entry_in_range, holds, again, valid}
 use Rattle.board.specs.Private.{node_place, mark}
 use Rattle.board.proofs.Tests.{true_not_false, and_left, and_right, not-both}
 use Rattle.board.proofs.Validity.{first_in_range, first_once, rest_valid, stands_again}
-
-pub node_place_is : (e : Entry) {b a : ℕ} → b ≡ e.bus → a ≡ e.address → b * 256 + a ≡ node_place e
-unfolding node_place
-node_place_is e f g = rw (f, g)
-
--- ---- by the number of its node
-module _ (e : Entry) (n : ℕ) (is : (n ≡ node_place e) × (e.address < 256)) where
-  pub entry_no_kind : {r : Bool} → r ≡ is_kind e.kind → not r ≡ true → false ≡ (is_kind e.kind && is_node e.bus e.address)
-  entry_no_kind {r} g f = rw (← g, not-true r f)
-
-  place : n ≡ e.bus * 256 + e.address
-  unfolding node_place
-  place = is.0
-
-  module _ {r : Bool} (g : r ≡ is_kind e.kind) (f : not r ≡ false) where
-    pub entry_255 : n ≡ 255 → false ≡ (is_kind e.kind && is_node e.bus e.address)
-    unfolding is_node
-    entry_255 h =
-        let z : e.bus ≡ 0 = omega (arith, place, h, is.1) in
-        let a : e.address ≡ 255 = omega (arith, place, h, z) in
-        rw (← g, not-false r f, z, a)
-
-    pub entry-node : (n ≡ 255 → ⊥) → ltb n 384 ≡ (is_kind e.kind && is_node e.bus e.address)
-    unfolding is_node
-    entry-node h = rw (← g, not-false r f) (go (eqb e.bus 0) refl (eqb e.bus 1) refl)
-      where
-        go : (x : Bool) → eqb e.bus 0 ≡ x → (y : Bool) → eqb e.bus 1 ≡ y → ltb n 384 ≡ (x && leb e.address 254 || y && leb e.address 127)
-        go true u y w =
-            let z : e.bus ≡ 0 = eqb-true e.bus 0 u in
-            let m : e.address ≤ 254 = omega (arith, place, h, z, is.1) in
-            rw (le-leb e.address 254 m) (lt-ltb n 384 (omega (arith, place, z, m)))
-        go false u true w =
-            let z : e.bus ≡ 1 = eqb-true e.bus 1 w in
-            ends (leb e.address 127) refl z
-          where
-            ends : (b : Bool) → leb e.address 127 ≡ b → e.bus ≡ 1 → ltb n 384 ≡ b
-            ends true v z = let m : e.address ≤ 127 = leb-true e.address 127 v in lt-ltb n 384 (omega (arith, place, z, m))
-            ends false v z = let m : 127 < e.address = leb-false e.address 127 v in le-ltb n 384 (omega (arith, place, z, m))
-        go false u false w =
-            let a : e.bus ≡ 0 → ⊥ = eqb-false e.bus 0 u in
-            let b : e.bus ≡ 1 → ⊥ = eqb-false e.bus 1 w in
-            let c : 2 ≤ e.bus = omega (arith, a, b) in
-            le-ltb n 384 (omega (arith, place, c))
 
 -- ---- an entry in range
 or_cases : (a b : Bool) → (a || b) ≡ true → (b ≡ true → ⊥) → a ≡ true
@@ -233,30 +190,6 @@ again-told e t f z v =
 
 -- ---- one place more
 module _ (good : Bool) (seen : List ℕ) (e : Entry) where
-  pub mark-free : {c : Bool} → e.kind ≡ 0 → good ≡ true → c ≡ is_clear e → ◌≡◌ {A = Bool × List ℕ} (c, seen) (mark good seen e)
-  unfolding mark
-  mark-free h w g = rw (eq-eqb e.kind 0 h, w, g)
-
-  pub mark-free_bad : e.kind ≡ 0 → good ≡ false → ◌≡◌ {A = Bool × List ℕ} (good, seen) (mark good seen e)
-  unfolding mark
-  mark-free_bad h w = rw (eq-eqb e.kind 0 h, w)
-
-  pub mark_out : {r : Bool} → (e.kind ≡ 0 → ⊥) → r ≡ (is_kind e.kind && is_node e.bus e.address) → not r ≡ true → ◌≡◌ {A = Bool × List ℕ} (false, seen) (mark good seen e)
-  unfolding mark
-  mark_out {r} h g f = rw (ne_eqb e.kind 0 h, ← g, not-true r f)
-
-  module _ {r : Bool} {n : ℕ} (h : e.kind ≡ 0 → ⊥) (g : r ≡ (is_kind e.kind && is_node e.bus e.address)) (f : not r ≡ false) (p : n ≡ node_place e) where
-    pub mark_place : n < 384
-    mark_place = let b : node_place e < 384 = place_bound e (and_right (is_kind e.kind) _ (sym g ∙ not-false r f)) in omega (arith, b, p)
-
-    pub mark_in : good ≡ true → ◌≡◌ {A = Bool × List ℕ} (eqb (bit_and (get_or seen n 0) e.kind) 0, set seen n (bit_or (get_or seen n 0) e.kind)) (mark good seen e)
-    unfolding mark
-    mark_in w = rw (ne_eqb e.kind 0 h, ← g, not-false r f, w, p)
-
-    pub mark_in_bad : good ≡ false → ◌≡◌ {A = Bool × List ℕ} (good, set seen n (bit_or (get_or seen n 0) e.kind)) (mark good seen e)
-    unfolding mark
-    mark_in_bad w = rw (ne_eqb e.kind 0 h, ← g, not-false r f, w, p)
-
   pub mark-length : length (mark good seen e).1 ≡ length seen
   unfolding mark
   mark-length = go (is_free e) (is_kind e.kind && is_node e.bus e.address)
@@ -335,9 +268,6 @@ pub marked-valid : (t : List Entry) → (marked t).0 ≡ valid t
 marked-valid t = (all_told t).0
 
 -- ---- the loop, from the last of n places on
-abbrev pub marked_from : ℕ → List Entry → Bool × List ℕ
-marked_from i t = marked (drop i t)
-
 pub marked_start : (n : ℕ) (t : List Entry) → length t ≤ n → ◌≡◌ {A = Bool × List ℕ} (true, replicate 384 0) (marked (drop n t))
 unfolding marked
 marked_start n t h = let z : drop n t ≡ [] = drop_of_length-le t h in rw z

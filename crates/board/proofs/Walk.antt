@@ -5,7 +5,7 @@ use native.Mathlib.Numerals.{add-one}
 use native.Mathlib.Omega.{arith}
 use mathlib.Core.List.{List, ◌++◌, append-nil}
 use lib.ListN.{length, get_or, set, take, drop, drop_of_length-le}
-use lib.Seq.{length-take-le, take-suc, drop-cons, set_at, append_snoc, length_front, take_all}
+use lib.Seq.{length-take-le, take-suc, drop-cons, set_at, append_snoc, take_all}
 use Rattle.board.specs.declared.entries.Entry.{Entry}
 
 -- the first n places of one table, and after them those of another
@@ -22,9 +22,6 @@ over_step xs ys i d lx ly =
 
 pub over_more : (xs ys : List Entry) (n i : ℕ) (d : Entry) {q r : List Entry} {e : Entry} → n ≤ length xs → n ≤ length ys → i < n → q ≡ over i xs ys → r ≡ set q i e → e ≡ get_or xs i d → r ≡ over (i + 1) xs ys
 over_more xs ys n i d kx ky l v u w = u ∙ (λ j. set (v j) i (w j)) ∙ over_step xs ys i d (omega arith) (omega arith) ∙ ap (λ (m : ℕ). over m xs ys) (sym (add-one i))
-
-pub over-length : (xs ys : List Entry) (i : ℕ) → i ≤ length xs → i ≤ length ys → length (over i xs ys) ≡ length ys
-over-length xs ys i lx ly = length_front ys (take i xs) i (length-take-le i xs lx ∙ sym (length-take-le i ys ly))
 
 -- all
 pub over_all : (n i : ℕ) (xs ys : List Entry) → length xs ≡ n → length ys ≡ n → n ≤ i → over i xs ys ≡ xs

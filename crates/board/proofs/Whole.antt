@@ -12,13 +12,12 @@ use Rattle.refusal.specs.Refusals.{number, refused}
 use Rattle.board.specs.declared.entries.Entry.{Entry}
 use Rattle.board.specs.declared.orders.Order.{Order}
 use Rattle.board.specs.Entries.{free, empty, valid}
-use Rattle.board.specs.Orders.{change, numbered, paper_answer}
+use Rattle.board.specs.Orders.{change, numbered}
 use Rattle.board.specs.declared.survey.Target.{Target}
 use Rattle.board.specs.declared.survey.Found.{Found}
 use Rattle.board.specs.declared.orders.Order.TheVariants.{Open, Close, Restart, Poll, Unnamed, Nothing}
-use Rattle.board.specs.declared.orders.Answer.{Answer}
 use Rattle.board.specs.declared.orders.Step.{Step}
-use Rattle.board.specs.Private.{found_in, steps, polled_in, sought_by, sought_in, left_by, Acts, Decided}
+use Rattle.board.specs.Private.{found_in, sought_by, sought_in, left_by, Acts, Decided}
 use Rattle.board.proofs.Walk.{over, over_all}
 use Rattle.board.proofs.Carried.{left_none}
 
@@ -108,10 +107,3 @@ decided_by ys o answer polled from to step {n} {m} {good} {k} {f} en eg em ek ef
     (subst (λ (x : ℕ). Acts x (valid (take x ys)) (found_in (take (sought_in x o) ys) (sought_by o)) o answer polled from to step) en
     (subst (λ (x : Bool). Acts n x (found_in (take (sought_in n o) ys) (sought_by o)) o answer polled from to step) eg
     (subst (λ (x : Found). Acts n good x o answer polled from to step) (ef ∙ (λ j. found_in (take (em j) ys) (ek j))) a)))
-
--- the same on places by value
-pub applied_is : (t : List Entry) (o : Order) (ans : Answer) (polled from to : ℕ) (step : Step) {good : Bool} {f : Found} {m : ℕ} {k : Target} {ps qs : List Entry} → length t ≡ 32 → good ≡ valid t → m ≡ sought_in 32 o → k ≡ sought_by o → f ≡ found_in (take m t) k
-    → ((u : List Entry) → length u ≡ 32 → good ≡ valid u → f ≡ found_in (take (sought_in 32 o) u) (sought_by o) → (paper_answer ans, left_by polled from to step u) ≡ change u o) × (polled ≤ 32) × (from ≤ to) × (to ≤ 32)
-    → ps ≡ polled_in polled t → qs ≡ steps from to step ps → (paper_answer ans, qs) ≡ change t o
-applied_is t o ans polled from to step len g sm sk sf p e d =
-    (λ j. (paper_answer ans, (d ∙ ap (steps from to step) e) j)) ∙ p.0 t len g (sf ∙ (λ j. found_in (take (sm j) t) (sk j)))

@@ -250,6 +250,7 @@ pub fn entry(node: Node, kind: Kind, lease: u16) -> Entry
     }
 }
 
+#[tactic(auto, using(crate::proofs::Carried::opening))]
 fn plan_open(f: Found, node: Node, kind: Kind, lease: u16) -> Plan
     ensures { Carries (opened node kind lease) (λ t. f ≡ found_in t (target_of node kind)) result }
 {
