@@ -7,7 +7,7 @@ use mathlib.Core.List.{List, [], ◌++◌, map}
 use lib.ListN.{length, take, drop, length-drop}
 use borrow.Author.Tests.{le-ltb}
 use Rattle.shdlc.specs.declared.Kind.{Kind}
-use Rattle.shdlc.specs.Stream.{Event, byte, mark, Item, Place, outside, items_from, items}
+use Rattle.shdlc.specs.Stream.{Event, byte, Item, Place, outside, items_from, items}
 use Rattle.shdlc.proofs.Stream.{place_from, place_append, items-append}
 use Rattle.receiver.specs.Record.{Record, in_range, record_of}
 use Rattle.receiver.specs.Calls.{Result, Outcome, feed_of}

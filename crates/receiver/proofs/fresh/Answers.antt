@@ -1,5 +1,4 @@
 -- `receiver::fresh` meets its contract. Assumes nothing.
-use borrow.Author.Rules.{rules}
 use borrow.Author.Tests.{lt-ltb, le-ltb}
 use mathlib.Core.Path.{◌≡◌, sym, ap, ◌∙◌}
 use mathlib.Core.List.{List, ◌++◌}
@@ -12,8 +11,7 @@ use Rattle.shdlc.specs.declared.Kind.{Kind}
 use Rattle.receiver.specs.declared.Receiver.{Receiver}
 use Rattle.receiver.specs.Record.{Record, held, outside_of}
 use Rattle.receiver.specs.Calls.{fresh_of}
-use Rattle.receiver.proofs.fresh.Statement.{statement}
-use Rattle.receiver.proofs.fresh.Tie as tie
+use Rattle.receiver.proofs.fresh.Goals as goal
 
 abbrev zeros : List ℕ
 zeros = replicate 260 0
@@ -30,23 +28,13 @@ cleared kind r store first h e f =
     ∙ ap (λ (l : List ℕ). (served (held (outside_of kind 0) l), zeros ++ drop 260 store)) (take_at zeros (drop 260 store) 260 size)
     ∙ rw (le-ltb (length store) 260 h)
 
-returns : tie.Need-returns
+pub returns-then-store-lt260 : goal.returns-then-store-lt260
 unfolding fresh_of
-returns c = simp (lt-ltb _ _ c.if1.true)
+returns-then-store-lt260 c = simp (lt-ltb _ _ c.if-store-lt260.true)
 
-returns-2 : tie.Need-returns-2
-returns-2 c =
-    let k = c.before.before.before in
-    cleared _ _ _ _ k.before.before.if1.false k.clear.ensures c.outside.ensures
+pub returns : goal.returns
+returns c =
+    cleared _ _ _ _ c.if-store-lt260.false c.clear.ensures c.outside.ensures
 
-pub fresh-spec : {M : Type 1} → statement M
-fresh-spec =
-    tie.close
-    (tie.spec
-    returns
-    (λ c. search rules)
-    (λ c. sym (length-take-le 260 c.before.before.before.args.store.now c.before.if1.false))
-    (λ c κs. search rules)
-    (λ c κs. search rules)
-    (λ c. search rules)
-    returns-2)
+pub slice_bounds-clear-end-2 : goal.slice_bounds-clear-end-2
+slice_bounds-clear-end-2 c = sym (length-take-le 260 c.args.store.now c.if-store-lt260.false)
