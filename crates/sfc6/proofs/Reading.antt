@@ -10,7 +10,7 @@ use borrow.Author.Tests.{eq-eqb, ne_eqb, eqb-true}
 use lib.Dec.{eqb}
 use lib.ListN.{length, get_or, take, drop, length-append, length-drop, drop_of_length-le}
 use lib.Seq.{drop-cons, take_all}
-use Rattle.refusal.specs.Refusals.{Numbered, Answered, number, served, refused, paper}
+use Rattle.refusal.specs.Refusals.{number, served, refused, paper}
 use Rattle.refusal.specs.declared.Refusal.{Refusal}
 use Rattle.shdlc.specs.declared.Kind.TheVariants as kind
 use Rattle.shdlc.specs.declared.Checked.{Checked}
@@ -33,7 +33,6 @@ use Rattle.sfc6.specs.Commands.{row, table, request_at}
 use Rattle.sfc6.specs.Requests.{sub_bytes, value_bytes, data_of, check_request}
 use Rattle.sfc6.specs.Reading.{starts_with, named, fitting, first, carried, typed, and_then, read_request}
 use Rattle.sfc6.specs.Paper.{paper_passed, paper_found, paper_typed}
-use Rattle.sfc6.proofs.Order.{never}
 use Rattle.sfc6.proofs.Table.{last}
 
 -- what a row carries; an address is a byte

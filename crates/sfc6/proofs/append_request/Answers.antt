@@ -1,0 +1,17 @@
+-- `sfc6::append_request` meets its contract. Assumes nothing.
+use Rattle.sfc6.specs.Requests.{write_request}
+use Rattle.sfc6.specs.Rounds.{append_request}
+use Rattle.sfc6.proofs.Writing.{starts, appended}
+use Rattle.sfc6.proofs.append_request.Goals as goal
+
+pub slice_bounds-write_request-count : goal.slice_bounds-write_request-count
+slice_bounds-write_request-count c = (starts _ _ _ c.room_from-end.ensures).0
+
+pub slice_bounds-write_request-start : goal.slice_bounds-write_request-start
+slice_bounds-write_request-start c = (starts _ _ _ c.room_from-end.ensures).0
+
+pub returns : goal.returns
+unfolding append_request
+returns c =
+    let a = c.args in
+    appended a.buffer.now a.start c.room_from-end.result (write_request _ _) (starts _ _ _ c.room_from-end.ensures) c.write_request.ensures
