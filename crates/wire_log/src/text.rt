@@ -90,6 +90,23 @@ fn put_line(kind: u8, body: &[u8], skip: usize, out: &mut [u8], place: usize) ->
     o
 }
 
+// Lays bytes from a place of them on at the start of the room, as much as fits, and answers how much.
+fn put_part(bytes: &[u8], from: usize, out: &mut [u8]) -> usize
+    ensures { (result, out.new) ≡ window bytes.now from out.old }
+{
+    let mut o: usize = 0;
+    let mut i = from;
+    while i < bytes.len() {
+        if out.len() <= o {
+            break;
+        }
+        out[o] = bytes[i];
+        o += 1;
+        i += 1;
+    }
+    o
+}
+
 // Lays bytes from a place of them on in the room from a place on, as much as fits, and answers the place after them.
 pub fn put_from(bytes: &[u8], skip: usize, out: &mut [u8], place: usize) -> usize
     ensures { (result ≡ place + length (take (length out.old - place) (drop skip bytes.now))) × (out.new ≡ overlay out.old place (take (length out.old - place) (drop skip bytes.now))) }
@@ -128,7 +145,7 @@ pub fn put_refused(why: Refusal, from: usize, out: &mut [u8]) -> usize
         48 + n % 10,
         b'\n',
     ];
-    put_from(&line, from, out, 0)
+    put_part(&line, from, out)
 }
 
 // What is left of a number when another is taken from it.

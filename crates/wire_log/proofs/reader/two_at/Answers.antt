@@ -1,0 +1,13 @@
+-- `log::reader::two_at` meets its contract: the field is there. Assumes nothing.
+use mathlib.Core.Path.{sym, ap, ◌∙◌}
+use Rattle.payload.specs.Field.{paper_u16}
+use Rattle.wire_log.proofs.Numbers.{number_there, number_not}
+use Rattle.wire_log.proofs.reader.two_at.Goals as goal
+
+pub returns-in-Value : goal.returns-in-Value
+returns-in-Value c =
+    number_there _ _ _ c.requires (sym (ap paper_u16 c.in-Value.is) ∙ c.u16_at.ensures)
+
+pub returns-in-Refused : goal.returns-in-Refused
+returns-in-Refused c =
+    number_not _ _ _ c.requires (sym (ap paper_u16 c.in-Refused.is) ∙ c.u16_at.ensures)

@@ -1,0 +1,13 @@
+-- `log::writer::put_bytes` meets its contract. The invariant: the bytes that are left, written from here on, make the whole. Assumes nothing.
+use mathlib.Core.Path.{◌≡◌}
+use Prim.Native.Nat.{◌+◌, ◌-◌, ◌≤◌}
+use lib.ListN.{length, drop}
+use Rattle.refusal.specs.Room.{overlay}
+use Rattle.wire_log.proofs.writer.put_bytes.Given as goal
+
+abbrev pub invariant-loop-i : goal.invariant-loop-i
+invariant-loop-i l =
+    (l.i ≤ length l.bytes) × (length l.out ≡ length l.initial.out) × (overlay l.out (l.place + l.i) (drop l.i l.bytes) ≡ overlay l.initial.out l.place l.bytes)
+
+abbrev pub decreases-loop-i : goal.decreases-loop-i
+decreases-loop-i l = length l.bytes - l.i
