@@ -1,0 +1,2 @@
+-- Lemmas on what is read and written in parts.
+mod Parts
