@@ -6,14 +6,22 @@ mod digits;
 mod show;
 mod table;
 
-fn main() {
-    table::makers_crcs();
-    table::derived_crcs();
-    table::steps();
-    table::words();
-    table::number_formats();
-    table::commands();
-    table::registers();
-    table::readings();
-    table::rounding();
+use show::Output;
+use std::io;
+
+fn main(rt: HostRuntime) -> io::Result<()> {
+    let mut to = Output {
+        stdout: rt.stdout(),
+        written: Ok(()),
+    };
+    table::makers_crcs(&mut to);
+    table::derived_crcs(&mut to);
+    table::steps(&mut to);
+    table::words(&mut to);
+    table::number_formats(&mut to);
+    table::commands(&mut to);
+    table::registers(&mut to);
+    table::readings(&mut to);
+    table::rounding(&mut to);
+    to.written
 }

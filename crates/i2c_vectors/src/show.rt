@@ -6,42 +6,49 @@ use i2c::Stored;
 use i2c::command::{Liquid, Sfc6};
 use i2c::register::Edited;
 use i2c::word::{LIQUID_START, SFC6_START};
-use libc::STDOUT_FILENO;
 use reading::{Quantity, Thousandths};
 use refusal::Refusal;
+use std::io::{self, Print, Stdout};
 
-pub(crate) fn crc(bytes: &[u8]) {
-    text(b"crc");
-    each(bytes, bytes.len());
-    text(b":");
-    byte(i2c::crc::crc(LIQUID_START, bytes));
-    byte(i2c::crc::crc(SFC6_START, bytes));
-    text(b", by the table");
-    byte(i2c::crc::table_crc(LIQUID_START, bytes));
-    byte(i2c::crc::table_crc(SFC6_START, bytes));
-    text(b"\n");
+// Where the lines go, and whether all were written. After a write that failed nothing more is written, and main returns its error.
+#[derive(Drop)]
+pub(crate) struct Output {
+    pub(crate) stdout: Stdout,
+    pub(crate) written: io::Result<()>,
 }
 
-pub(crate) fn row(first: u8)
+pub(crate) fn crc(to: &mut Output, bytes: &[u8]) {
+    text(to, b"crc");
+    each(to, bytes, bytes.len());
+    text(to, b":");
+    byte(to, i2c::crc::crc(LIQUID_START, bytes));
+    byte(to, i2c::crc::crc(SFC6_START, bytes));
+    text(to, b", by the table");
+    byte(to, i2c::crc::table_crc(LIQUID_START, bytes));
+    byte(to, i2c::crc::table_crc(SFC6_START, bytes));
+    text(to, b"\n");
+}
+
+pub(crate) fn row(to: &mut Output, first: u8)
     requires { first ≤ 240 }
 {
-    text(b"steps from");
-    byte(first);
-    text(b":");
+    text(to, b"steps from");
+    byte(to, first);
+    text(to, b":");
     let mut k: u8 = 0;
     while k < 16 {
-        byte(step_of(first + k));
+        byte(to, step_of(first + k));
         k += 1;
     }
-    text(b"\n");
+    text(to, b"\n");
 }
 
-pub(crate) fn step(value: u8) {
-    text(b"step");
-    byte(value);
-    text(b":");
-    byte(step_of(value));
-    text(b"\n");
+pub(crate) fn step(to: &mut Output, value: u8) {
+    text(to, b"step");
+    byte(to, value);
+    text(to, b":");
+    byte(to, step_of(value));
+    text(to, b"\n");
 }
 
 fn step_of(value: u8) -> u8 {
@@ -49,199 +56,209 @@ fn step_of(value: u8) -> u8 {
     i2c::crc::crc(LIQUID_START, &one)
 }
 
-pub(crate) fn read(start: u8, bytes: &[u8]) {
+pub(crate) fn read(to: &mut Output, start: u8, bytes: &[u8]) {
     let mut words = [0u16; 4];
-    asked(start, bytes);
-    shown_words(i2c::word::read_words(start, bytes, &mut words), &words);
+    asked(to, start, bytes);
+    shown_words(to, i2c::word::read_words(start, bytes, &mut words), &words);
 }
 
-pub(crate) fn read_one(start: u8, bytes: &[u8]) {
+pub(crate) fn read_one(to: &mut Output, start: u8, bytes: &[u8]) {
     let mut words = [0u16; 1];
-    asked(start, bytes);
-    shown_words(i2c::word::read_words(start, bytes, &mut words), &words);
+    asked(to, start, bytes);
+    shown_words(to, i2c::word::read_words(start, bytes, &mut words), &words);
 }
 
-fn asked(start: u8, bytes: &[u8]) {
-    text(b"read");
-    byte(start);
-    text(b":");
-    each(bytes, bytes.len());
-    text(b":");
+fn asked(to: &mut Output, start: u8, bytes: &[u8]) {
+    text(to, b"read");
+    byte(to, start);
+    text(to, b":");
+    each(to, bytes, bytes.len());
+    text(to, b":");
 }
 
-fn shown_words(answer: Stored, words: &[u16]) {
+fn shown_words(to: &mut Output, answer: Stored, words: &[u16]) {
     match answer {
-        Stored::Count(n) => numbers(words, n),
-        Stored::Refused(r) => refused(r),
+        Stored::Count(n) => numbers(to, words, n),
+        Stored::Refused(r) => refused(to, r),
     }
-    text(b"\n");
+    text(to, b"\n");
 }
 
-pub(crate) fn write(start: u8, word: u16) {
+pub(crate) fn write(to: &mut Output, start: u8, word: u16) {
     let one = [word];
     let mut out = [0u8; 8];
-    text(b"write");
-    byte(start);
-    text(b" ");
-    four_digits(word);
-    text(b":");
-    shown_bytes(i2c::word::write_words(start, &one, &mut out), &out);
+    text(to, b"write");
+    byte(to, start);
+    text(to, b" ");
+    four_digits(to, word);
+    text(to, b":");
+    shown_bytes(to, i2c::word::write_words(start, &one, &mut out), &out);
 }
 
-pub(crate) fn write_none(start: u8) {
+pub(crate) fn write_none(to: &mut Output, start: u8) {
     let none: [u16; 0] = [];
     let mut out = [0u8; 8];
-    text(b"write");
-    byte(start);
-    text(b":");
-    shown_bytes(i2c::word::write_words(start, &none, &mut out), &out);
+    text(to, b"write");
+    byte(to, start);
+    text(to, b":");
+    shown_bytes(to, i2c::word::write_words(start, &none, &mut out), &out);
 }
 
-pub(crate) fn sfc6(ask: &[u8], command: Sfc6) {
+pub(crate) fn sfc6(to: &mut Output, ask: &[u8], command: Sfc6) {
     let mut out = [0u8; 8];
-    text(b"SFC6 ");
-    text(ask);
-    text(b":");
-    shown_bytes(i2c::command::write_sfc6(command, &mut out), &out);
+    text(to, b"SFC6 ");
+    text(to, ask);
+    text(to, b":");
+    shown_bytes(to, i2c::command::write_sfc6(command, &mut out), &out);
 }
 
-pub(crate) fn liquid(ask: &[u8], command: Liquid) {
+pub(crate) fn liquid(to: &mut Output, ask: &[u8], command: Liquid) {
     let mut out = [0u8; 8];
-    text(b"liquid ");
-    text(ask);
-    text(b":");
-    shown_bytes(i2c::command::write_liquid(command, &mut out), &out);
+    text(to, b"liquid ");
+    text(to, ask);
+    text(to, b":");
+    shown_bytes(to, i2c::command::write_liquid(command, &mut out), &out);
 }
 
-fn shown_bytes(answer: Stored, out: &[u8]) {
+fn shown_bytes(to: &mut Output, answer: Stored, out: &[u8]) {
     match answer {
-        Stored::Count(n) => each(out, n),
-        Stored::Refused(r) => refused(r),
+        Stored::Count(n) => each(to, out, n),
+        Stored::Refused(r) => refused(to, r),
     }
-    text(b"\n");
+    text(to, b"\n");
 }
 
-pub(crate) fn user(register: u16, field: u32) {
-    text(b"user ");
-    edit(register, field, i2c::register::edit_user(register, field));
-}
-
-pub(crate) fn advanced(register: u16, field: u32) {
-    text(b"advanced ");
+pub(crate) fn user(to: &mut Output, register: u16, field: u32) {
+    text(to, b"user ");
     edit(
+        to,
+        register,
+        field,
+        i2c::register::edit_user(register, field),
+    );
+}
+
+pub(crate) fn advanced(to: &mut Output, register: u16, field: u32) {
+    text(to, b"advanced ");
+    edit(
+        to,
         register,
         field,
         i2c::register::edit_advanced(register, field),
     );
 }
 
-fn edit(register: u16, field: u32, answer: Edited) {
-    four_digits(register);
-    text(b" to ");
-    decimal(field as u64);
-    text(b":");
+fn edit(to: &mut Output, register: u16, field: u32, answer: Edited) {
+    four_digits(to, register);
+    text(to, b" to ");
+    decimal(to, field as u64);
+    text(to, b":");
     match answer {
         Edited::Value(v) => {
-            text(b" ");
-            four_digits(v);
+            text(to, b" ");
+            four_digits(to, v);
         }
-        Edited::Refused(r) => refused(r),
+        Edited::Refused(r) => refused(to, r),
     }
-    text(b"\n");
+    text(to, b"\n");
 }
 
-pub(crate) fn reading(raw: i16, offset: i16, scale: i32) {
-    text(b"reading ");
-    whole(raw as i32);
-    text(b" ");
-    whole(offset as i32);
-    text(b" ");
-    whole(scale);
-    text(b":");
+pub(crate) fn reading(to: &mut Output, raw: i16, offset: i16, scale: i32) {
+    text(to, b"reading ");
+    whole(to, raw as i32);
+    text(to, b" ");
+    whole(to, offset as i32);
+    text(to, b" ");
+    whole(to, scale);
+    text(to, b":");
     match reading::scaled(raw, offset, scale) {
         Thousandths::Value(q) => {
-            text(b" ");
-            whole(q);
+            text(to, b" ");
+            whole(to, q);
         }
-        Thousandths::Refused(r) => refused(r),
+        Thousandths::Refused(r) => refused(to, r),
     }
     match reading::scaled_float(raw, offset, scale) {
-        Quantity::Value(x) => eight_digits(bits(x)),
-        Quantity::Refused(r) => refused(r),
+        Quantity::Value(x) => eight_digits(to, bits(x)),
+        Quantity::Refused(r) => refused(to, r),
     }
-    text(b"\n");
+    text(to, b"\n");
 }
 
 // The first n bytes of a slice, or all.
-fn each(bytes: &[u8], n: usize) {
+fn each(to: &mut Output, bytes: &[u8], n: usize) {
     let mut i = 0;
     while i < bytes.len() {
         if i < n {
-            byte(bytes[i]);
+            byte(to, bytes[i]);
         }
         i += 1;
     }
 }
 
 // The first n numbers of a slice, or all.
-fn numbers(words: &[u16], n: usize) {
+fn numbers(to: &mut Output, words: &[u16], n: usize) {
     let mut i = 0;
     while i < words.len() {
         if i < n {
-            number(words[i]);
+            number(to, words[i]);
         }
         i += 1;
     }
 }
 
-fn number(w: u16) {
-    text(b" ");
-    decimal(w as u64);
+fn number(to: &mut Output, w: u16) {
+    text(to, b" ");
+    decimal(to, w as u64);
 }
 
-fn refused(r: Refusal) {
-    text(b" refused ");
-    decimal(refusal::number(r) as u64);
+fn refused(to: &mut Output, r: Refusal) {
+    text(to, b" refused ");
+    decimal(to, refusal::number(r) as u64);
     if let Refusal::WrongCrc(k) = r {
-        text(b" at ");
-        decimal(k as u64);
+        text(to, b" at ");
+        decimal(to, k as u64);
     }
 }
 
-fn byte(b: u8) {
-    text(b" ");
-    two_digits(b);
+fn byte(to: &mut Output, b: u8) {
+    text(to, b" ");
+    two_digits(to, b);
 }
 
-fn two_digits(b: u8) {
+fn two_digits(to: &mut Output, b: u8) {
     let h = hex(b);
     let pair = [h.0, h.1];
-    text(&pair);
+    text(to, &pair);
 }
 
-fn four_digits(w: u16) {
-    two_digits((w / 256) as u8);
-    two_digits((w % 256) as u8);
+fn four_digits(to: &mut Output, w: u16) {
+    two_digits(to, (w / 256) as u8);
+    two_digits(to, (w % 256) as u8);
 }
 
-fn eight_digits(x: u32) {
-    text(b" ");
-    four_digits((x / 65536) as u16);
-    four_digits((x % 65536) as u16);
+fn eight_digits(to: &mut Output, x: u32) {
+    text(to, b" ");
+    four_digits(to, (x / 65536) as u16);
+    four_digits(to, (x % 65536) as u16);
 }
 
-fn whole(z: i32) {
+fn whole(to: &mut Output, z: i32) {
     let s = signed(z);
     if s.negative {
-        text(b"-");
+        text(to, b"-");
     }
-    decimal(s.size);
+    decimal(to, s.size);
 }
 
-fn decimal(n: u64) {
-    io::print_decimal(STDOUT_FILENO, n);
+fn decimal(to: &mut Output, n: u64) {
+    if to.written.is_ok() {
+        to.written = to.stdout.print(n);
+    }
 }
 
-fn text(s: &[u8]) {
-    io::write_all(STDOUT_FILENO, s);
+fn text(to: &mut Output, s: &[u8]) {
+    if to.written.is_ok() {
+        to.written = to.stdout.write_all(s);
+    }
 }

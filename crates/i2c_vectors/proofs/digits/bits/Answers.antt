@@ -1,0 +1,10 @@
+use mathlib.Core.Path.{sym, ap, ◌∙◌}
+use lib.Ieee.{binary32, to_bits}
+use Rattle.i2c_vectors.proofs.Floats.{differs, no_nan, nan_bits_lem}
+use Rattle.i2c_vectors.proofs.digits.bits.Goals as goal
+
+pub returns-then-x : goal.returns-then-x
+returns-then-x c = sym (ap (to_bits binary32) (differs _ c.if-x.true) ∙ nan_bits_lem)
+
+pub float_to_bits-result : goal.float_to_bits-result
+float_to_bits-result c = no_nan _ c.if-x.false
