@@ -3,13 +3,11 @@ use mathlib.Core.Path.{◌≡◌, refl, sym, ap, subst, ◌∙◌}
 use mathlib.Core.Bool.{Bool, true, false, cond, not, ◌||◌}
 use mathlib.Core.List.{List, [], ◌∷◌, ◌++◌}
 use mathlib.Core.Option.{Option, none, some}
-use Prim.Native.Nat.{ℕ, ◌+◌, ◌-◌, ◌≤◌}
+use Prim.Native.Nat.{ℕ, ◌-◌, ◌≤◌}
 use native.Mathlib.Omega.{arith}
 use lib.Dec.{T, eqb}
 use lib.ListN.{length, get_or, take, drop, length-take, length-drop}
 use borrow.Author.Tests.{eq-eqb, ne_eqb, not-false}
-use types.Run.{OneOf}
-use denote.Enum.Declared.{tag_of}
 use Rattle.refusal.specs.declared.Refusal.{Refusal}
 use Rattle.refusal.proofs.Deciding.{Without}
 use Rattle.refusal.specs.Refusals.{Numbered, number, ◌carrying◌, number_in, Answered, served, refused, paper, in_order}
@@ -24,7 +22,6 @@ use Rattle.sfc6.specs.declared.Request.{Request}
 use Rattle.sfc6.specs.declared.Row.{Row}
 use Rattle.sfc6.specs.declared.Answer.{Answer}
 use Rattle.sfc6.specs.declared.Answer.TheVariants as answer
-use Rattle.sfc6.specs.contracts.Answer as answer-type
 use Rattle.sfc6.specs.Commands.{row}
 use Rattle.sfc6.specs.Requests.{request_checks, check_request}
 use Rattle.sfc6.specs.Paper.{paper_passed}
@@ -33,24 +30,12 @@ use Rattle.replies.specs.declared.Reply.{Reply}
 use Rattle.replies.specs.declared.Content.{Content}
 use Rattle.replies.specs.declared.Content.TheVariants as content
 use Rattle.replies.specs.Replies.{reply_to, content_of, out_of_range, bad_float}
-use Rattle.replies.specs.Reader.{code_in, bit7_in, length_in, data_in, size_of, is_size, foreign, text_in, Got, value, text, got_by, value_checks, read_checks, answer_to, with_bit7, read_reply}
-use Rattle.replies.proofs.Apart.{apart}
+use Rattle.replies.specs.Reader.{code_in, bit7_in, length_in, data_in, size_of, is_size, foreign, text_in, Got, text, got_by, value_checks, read_checks, answer_to, with_bit7, read_reply}
 use Rattle.replies.proofs.Table.{content_from, tabled}
 
 -- ---- the data, their length settled
 abbrev pub of_data : Request → Answer → List ℕ → Bool → Answered Got × Option Bool
 of_data q a payload bit7 = with_bit7 (in_order (value_checks (reply_to q (big payload))) (got_by (size_of a) q payload)) bit7
-
--- all forms but a text are numbers of the table's length
-numbered : (a : Answer) → OneOf (0 ∷ 1 ∷ 2 ∷ 3 ∷ 4 ∷ 5 ∷ 6 ∷ []) (tag_of answer-type.the_type a) → (width : ℕ) × (size_of a ≡ some width)
-numbered answer.Nothing o = (0, refl)
-numbered answer.Float o = (4, refl)
-numbered answer.U16 o = (2, refl)
-numbered answer.U32 o = (4, refl)
-numbered answer.Validity o = (1, refl)
-numbered answer.Address o = (1, refl)
-numbered answer.Baud o = (4, refl)
-numbered answer.Text o = absurd (apart (0 ∷ 1 ∷ 2 ∷ 3 ∷ 4 ∷ 5 ∷ 6 ∷ []) _ 7 o refl refl)
 
 module _ (q : Request) (a : Answer) (payload : List ℕ) (bit7 : Bool) where
   pub text_read : (n : ℕ) → a ≡ answer.Text → a ≡ (row q).answer → n ≡ length (text_in payload) → (served (text 4 n), some bit7) ≡ of_data q a payload bit7
@@ -63,13 +48,8 @@ module _ (q : Request) (a : Answer) (payload : List ℕ) (bit7 : Bool) where
     pub data_12 : x ≡ true → (refused (number 12), none) ≡ of_data q a payload bit7
     data_12 h = rw (← is, ← carried, ← range, h)
 
-    module _ (in_range_lem : x ≡ false) {y : Bool} (float : y ≡ bad_float c) where
-      pub data_13 : y ≡ true → (refused (number 13), none) ≡ of_data q a payload bit7
-      data_13 h = rw (← is, ← carried, ← range, in_range_lem, ← float, h)
-
-      pub data_value : OneOf (0 ∷ 1 ∷ 2 ∷ 3 ∷ 4 ∷ 5 ∷ 6 ∷ []) (tag_of answer-type.the_type a) → y ≡ false
-          → (served (value r), some bit7) ≡ of_data q a payload bit7
-      data_value o h = rw ((numbered a o).1, ← is, ← carried, ← range, in_range_lem, ← float, h)
+    pub data_13 : x ≡ false → {y : Bool} → y ≡ bad_float c → y ≡ true → (refused (number 13), none) ≡ of_data q a payload bit7
+    data_13 within float h = rw (← is, ← carried, ← range, within, ← float, h)
 
 -- the data as they are lent
 data_lent : (body : List ℕ) → take (length body - 1 - 4) (drop 4 body) ≡ data_in body

@@ -1,85 +1,43 @@
 -- What a reply carries, where it is known not to be of one form. Assumes nothing.
 use mathlib.Core.Path.{◌≡◌, refl, subst}
 use mathlib.Core.Bool.{Bool, true, false, cond, ◌||◌}
-use mathlib.Core.List.{List, [], ◌∷◌, ◌++◌, foldr}
+use mathlib.Core.List.{List, [], ◌++◌, foldr}
 use Prim.Native.Nat.{ℕ, ◌+◌, min, ◌≤◌, ◌<◌}
 use native.Mathlib.Omega.{arith}
 use lib.Dec.{T, eqb, ltb}
 use lib.ListN.{length, take}
 use lib.Seq.{take-append_seam}
 use borrow.Author.Tests.{ltb-false, lt-ltb, le-ltb}
-use types.Run.{OneOf}
-use denote.Enum.Declared.{tag_of}
 use Rattle.refusal.specs.Room.{overlay}
 use Rattle.payload.specs.Field.{big_endian, bytes_in}
 use Rattle.payload.specs.declared.fields.Width.{Width}
 use Rattle.payload.specs.declared.fields.Width.TheVariants.{One, Two, Four}
 use Rattle.payload.proofs.Big.{length-big_endian}
-use Rattle.replies.specs.declared.Reading.{Reading}
-use Rattle.replies.specs.declared.Reading.TheVariants.{Finite, Invalid, PlusInfinity, MinusInfinity}
 use Rattle.replies.specs.declared.Content.{Content}
 use Rattle.replies.specs.declared.Content.TheVariants.{Nothing, Float, U16, U32, Validity, Address, Baud, Text, Error}
-use Rattle.replies.specs.Replies.{out_of_range, not_finite, bad_float}
+use Rattle.replies.specs.Replies.{out_of_range}
 use Rattle.replies.specs.Writer.{bad_text, data_of, code_of, state_of}
-use Rattle.replies.specs.contracts.Reading as reading-type
-use Rattle.replies.specs.contracts.Content as content-type
-use Rattle.replies.proofs.Apart.{apart, without}
 use Rattle.replies.proofs.Text.{smallest_zero}
 
-abbrev pub forms : ℕ → List ℕ
-forms k = without k (0 ∷ 1 ∷ 2 ∷ 3 ∷ 4 ∷ 5 ∷ 6 ∷ 7 ∷ 8 ∷ [])
-
-pub a_coding : (x : Reading) → OneOf (1 ∷ 2 ∷ 3 ∷ []) (tag_of reading-type.the_type x) → false ≡ not_finite x
-a_coding (Finite x) o = absurd (apart (1 ∷ 2 ∷ 3 ∷ []) _ 0 o refl refl)
-a_coding Invalid o = refl
-a_coding PlusInfinity o = refl
-a_coding MinusInfinity o = refl
-
-pub no_float : (c : Content) → OneOf (forms 1) (tag_of content-type.the_type c) → false ≡ bad_float c
-no_float Nothing o = refl
-no_float (Float x) o = absurd (apart (forms 1) _ 1 o refl refl)
-no_float (U16 n) o = refl
-no_float (U32 n) o = refl
-no_float (Validity v) o = refl
-no_float (Address a) o = refl
-no_float (Baud rate) o = refl
-no_float Text o = refl
-no_float (Error code) o = refl
-
 -- beside anything else a text is not looked at
-pub no_text : (c : Content) (text : List ℕ) → OneOf (forms 7) (tag_of content-type.the_type c) → (false ≡ bad_text c text) × (data_of c [] ≡ data_of c text)
-no_text Nothing text o = (refl, refl)
-no_text (Float x) text o = (refl, refl)
-no_text (U16 n) text o = (refl, refl)
-no_text (U32 n) text o = (refl, refl)
-no_text (Validity v) text o = (refl, refl)
-no_text (Address a) text o = (refl, refl)
-no_text (Baud rate) text o = (refl, refl)
-no_text Text text o = absurd (apart (forms 7) _ 7 o refl refl)
-no_text (Error code) text o = (refl, refl)
-
-pub no_error : (c : Content) → OneOf (forms 8) (tag_of content-type.the_type c) → code_of c ≡ 0
-no_error Nothing o = refl
-no_error (Float x) o = refl
-no_error (U16 n) o = refl
-no_error (U32 n) o = refl
-no_error (Validity v) o = refl
-no_error (Address a) o = refl
-no_error (Baud rate) o = refl
-no_error Text o = refl
-no_error (Error code) o = absurd (apart (forms 8) _ 8 o refl refl)
+pub no_text : (c : Content) (text : List ℕ) → (c ≡ Text → ⊥) → data_of c [] ≡ data_of c text
+no_text Nothing text h = refl
+no_text (Float x) text h = refl
+no_text (U16 n) text h = refl
+no_text (U32 n) text h = refl
+no_text (Validity v) text h = refl
+no_text (Address a) text h = refl
+no_text (Baud rate) text h = refl
+no_text Text text h = absurd (h refl)
+no_text (Error code) text h = refl
 
 pub or_false : (a b : Bool) → (a || b) ≡ false → (a ≡ false) × (b ≡ false)
 or_false true b h = absurd (subst T h tt)
 or_false false b h = (refl, h)
 
--- the state without an error, and with one
-module _ (c : Content) (bit7 : Bool) {high : ℕ} (is : high ≡ cond bit7 0x80 0) where
-  pub plain_state : code_of c ≡ 0 → high ≡ state_of c bit7
-  plain_state e = rw (e, is) (omega arith)
-
-  pub error_state : (code : ℕ) → c ≡ Error code → code + high ≡ state_of c bit7
-  error_state code e = rw (e, is)
+-- the state with an error
+pub error_state : (c : Content) (bit7 : Bool) {high : ℕ} → high ≡ cond bit7 0x80 0 → (code : ℕ) → c ≡ Error code → code + high ≡ state_of c bit7
+error_state c bit7 is code e = rw (e, is)
 
 -- an error code in its range
 pub code_fits : (c : Content) → out_of_range c ≡ false → code_of c ≤ 127

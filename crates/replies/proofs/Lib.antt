@@ -1,5 +1,4 @@
 -- The laws of the definitions in specs/, a file for each subject.
-pub mod Apart
 pub mod Table
 pub mod Taking
 pub mod Text
