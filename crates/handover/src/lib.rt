@@ -90,6 +90,7 @@ pub fn order_of_command(address: u8, command: Sfc6, acknowledged: bool, lease: u
 }
 
 // Whether a code is another one that can be asked of an SFC6.
+#[tactic(auto, unfolding(crate::specs::Wire::is_listed))]
 fn is_listed(code: u16) -> bool
     ensures { result ≡ is_listed code }
 {
