@@ -8,7 +8,7 @@ use lib.Bits.{bit_or}
 use lib.Dec.{eqb}
 use lib.ListN.{length, get_or, take, drop, take-append-drop, length-take, length-drop}
 use lib.Seq.{take-take, take-add}
-use borrow.Author.Tests.{eq-eqb, ne_eqb, eqb-true}
+use borrow.Author.Tests.{eq-eqb, eqb-true}
 use Rattle.refusal.proofs.Rest.{rest_here, rest_end}
 use Rattle.compare.specs.Compare.{same_bytes}
 

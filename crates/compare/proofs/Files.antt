@@ -1,13 +1,13 @@
 -- Two files compared, and how many places two logs have at most: the claim `Compares`. Assumes nothing.
 use mathlib.Core.Path.{◌≡◌, refl, sym, ap, ◌∙◌}
-use mathlib.Core.List.{List, [], ◌∷◌, ◌++◌, reverse, reverse-reverse}
-use Prim.Native.Nat.{ℕ, ◌+◌, ◌*◌, ◌≤◌}
+use mathlib.Core.List.{List, [], ◌∷◌, reverse, reverse-reverse}
+use Prim.Native.Nat.{ℕ, ◌*◌, ◌≤◌}
 use native.Mathlib.Omega.{arith}
 use lib.ListN.{length, length-append, length-reverse}
 use Rattle.refusal.specs.Refusals.{Numbered, Answered, served, refused}
 use Rattle.refusal.proofs.Order.{refused_not_served}
 use Rattle.payload.specs.Field.{Bytes, big_endian}
-use Rattle.wire_log.specs.Log.{LogRecord, kinds, record_bytes, joined, log_of, Good, most}
+use Rattle.wire_log.specs.Log.{LogRecord, kinds, record_bytes, joined}
 use Rattle.wire_log.specs.Check.{records_of}
 use Rattle.wire_log.proofs.Tiling.{log_listed, listed_is}
 use Rattle.compare.specs.Compare.{marks_of, marks_by, marks_in}

@@ -133,9 +133,3 @@ laying_start text room from =
 pub window_is : (room whole out : List ℕ) (o : ℕ) → (o ≡ 0 + length whole) × (out ≡ overlay room 0 whole)
     → ◌≡◌ {A = ℕ × List ℕ} (o, out) (length whole, overlay room 0 whole)
 window_is room whole out o e = rw (e.0, e.1, zero-add (length whole))
-
--- what is laid from the start of the room on is a window of the text
-pub window-from : (text room after : List ℕ) (from r : ℕ)
-    → (r ≡ 0 + length (fitting text from (length room) 0)) × (after ≡ overlay room 0 (fitting text from (length room) 0))
-    → ◌≡◌ {A = ℕ × List ℕ} (r, after) (length (take (length room) (drop from text)), overlay room 0 (take (length room) (drop from text)))
-window-from text room after from r e = window_is room (take (length room) (drop from text)) after r (rw sub-zero at e)

@@ -1,4 +1,4 @@
--- `log::listing::list` meets its contract: at each return what the check said. Assumes nothing.
+-- `wire_log::listing::list` meets its contract: at each return what the check said. Assumes nothing.
 use mathlib.Core.Path.{sym, ap, ◌∙◌}
 use Rattle.wire_log.specs.Log.{kinds}
 use Rattle.wire_log.specs.Paper.{paper_answer}

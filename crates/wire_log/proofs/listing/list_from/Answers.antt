@@ -1,4 +1,4 @@
--- `log::listing::list_from` meets its contract: at each return the tests that led there. Assumes nothing.
+-- `wire_log::listing::list_from` meets its contract: at each return the tests that led there. Assumes nothing.
 use Rattle.wire_log.specs.Log.{kinds}
 use Rattle.wire_log.proofs.Turns.{passed}
 use Rattle.wire_log.proofs.Rows.{list_past, list_short, list_fits, list_done}

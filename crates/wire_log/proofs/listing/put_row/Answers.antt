@@ -1,4 +1,4 @@
--- `log::listing::put_row` meets its contract: three stores, one after another. Assumes nothing.
+-- `wire_log::listing::put_row` meets its contract: three stores, one after another. Assumes nothing.
 use native.Mathlib.Omega.{arith}
 use lib.ListN.{length-set}
 use Rattle.wire_log.proofs.Rows.{set-row}

@@ -1,4 +1,4 @@
--- `log::oldest::back_over` meets its contract. Assumes nothing.
+-- `wire_log::oldest::back_over` meets its contract. Assumes nothing.
 use native.Mathlib.Omega.{arith}
 use Rattle.wire_log.proofs.oldest.back_over.Goals as goal
 

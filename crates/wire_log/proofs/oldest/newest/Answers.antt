@@ -1,4 +1,4 @@
--- `log::oldest::newest` meets its contract. Assumes nothing.
+-- `wire_log::oldest::newest` meets its contract. Assumes nothing.
 use Rattle.wire_log.proofs.Halves.{newest_past, newest_found, newest_none}
 use Rattle.wire_log.proofs.oldest.newest.Goals as goal
 

@@ -1,4 +1,4 @@
--- `log::reader::check` meets its contract: at each return the tests that led there. Assumes nothing.
+-- `wire_log::reader::check` meets its contract: at each return the tests that led there. Assumes nothing.
 use Rattle.wire_log.proofs.Cases.{check_short, check_differs, check_over, check_refused, check_miscounted, check_good}
 use Rattle.wire_log.proofs.reader.check.Goals as goal
 

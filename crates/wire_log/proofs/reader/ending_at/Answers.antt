@@ -1,4 +1,4 @@
--- `log::reader::ending_at` meets its contract: at each return the tests that led there. Assumes nothing.
+-- `wire_log::reader::ending_at` meets its contract: at each return the tests that led there. Assumes nothing.
 use mathlib.Core.Path.{sym, ◌∙◌}
 use Rattle.wire_log.proofs.Steps.{found-cut, found-before-start, found_unknown, found_record}
 use Rattle.wire_log.proofs.reader.ending_at.Goals as goal

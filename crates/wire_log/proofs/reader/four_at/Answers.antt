@@ -1,4 +1,4 @@
--- `log::reader::four_at` meets its contract: the field is there. Assumes nothing.
+-- `wire_log::reader::four_at` meets its contract: the field is there. Assumes nothing.
 use mathlib.Core.Path.{sym, ap, ◌∙◌}
 use Rattle.payload.specs.Field.{paper_u32}
 use Rattle.wire_log.proofs.Numbers.{number_there, number_not}

@@ -1,4 +1,4 @@
--- `log::reader::is_known` meets its contract: at each return the tests that led there. Assumes nothing.
+-- `wire_log::reader::is_known` meets its contract: at each return the tests that led there. Assumes nothing.
 use borrow.Author.Tests.{eq-eqb, ne_eqb}
 use Rattle.wire_log.specs.Log.{kinds}
 use Rattle.wire_log.proofs.reader.is_known.Goals as goal

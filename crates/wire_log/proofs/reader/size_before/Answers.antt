@@ -1,4 +1,4 @@
--- `log::reader::size_before` meets its contract: with nothing in the high byte the low one is the number. Assumes nothing.
+-- `wire_log::reader::size_before` meets its contract: with nothing in the high byte the low one is the number. Assumes nothing.
 use Prim.Native.Nat.{◌-◌}
 use native.Mathlib.Omega.{arith}
 use Rattle.wire_log.proofs.Numbers.{low_byte}

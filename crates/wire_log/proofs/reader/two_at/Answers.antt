@@ -1,4 +1,4 @@
--- `log::reader::two_at` meets its contract: the field is there. Assumes nothing.
+-- `wire_log::reader::two_at` meets its contract: the field is there. Assumes nothing.
 use mathlib.Core.Path.{sym, ap, ◌∙◌}
 use Rattle.payload.specs.Field.{paper_u16}
 use Rattle.wire_log.proofs.Numbers.{number_there, number_not}

@@ -1,4 +1,4 @@
--- `log::text::byte_at` meets its contract: past the end there is 0. Assumes nothing.
+-- `wire_log::text::byte_at` meets its contract: past the end there is 0. Assumes nothing.
 use mathlib.Core.Path.{sym}
 use lib.ListN.{get_or-eq_default}
 use Rattle.wire_log.proofs.text.byte_at.Goals as goal

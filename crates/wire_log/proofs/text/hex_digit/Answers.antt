@@ -1,4 +1,4 @@
--- `log::text::hex_digit` meets its contract: at each return the test that led there. Assumes nothing.
+-- `wire_log::text::hex_digit` meets its contract: at each return the test that led there. Assumes nothing.
 use borrow.Author.Tests.{lt-ltb, le-ltb}
 use Rattle.wire_log.specs.Text.{hex_digit}
 use Rattle.wire_log.proofs.text.hex_digit.Goals as goal

@@ -1,4 +1,4 @@
--- `log::text::line_byte` meets its contract: in the word, at the end, and in the hexadecimal of a byte. Assumes nothing.
+-- `wire_log::text::line_byte` meets its contract: in the word, at the end, and in the hexadecimal of a byte. Assumes nothing.
 use native.Mathlib.Omega.{arith}
 use Prim.Native.Nat.{◌-◌, ◌/◌, ◌%◌}
 use mathlib.Core.Path.{◌≡◌, sym, ◌∙◌}
@@ -27,7 +27,7 @@ returns-in-1 c =
 pub returns-in_default : goal.returns-in_default
 unfolding hex_byte
 returns-in_default c =
-    let last : (c.args.i - c.word_length-word.result) % 3 ≡ 2 = omega (arith, c.in_default.in_default-own.rest.0.1, c.in_default.in_default-own.rest.1) in
+    let last : (c.args.i - c.word_length-word.result) % 3 ≡ 2 = omega arith in
     c.hex_digit-in_default.ensures ∙ sym (in_hex _ _ _ _ c.word_length-word.ensures c.if-i-word.false 2 c.if-body-j.false last)
 
 pub hex_digit-requires : goal.hex_digit-requires

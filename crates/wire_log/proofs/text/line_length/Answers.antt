@@ -1,4 +1,4 @@
--- `log::text::line_length` meets its contract: a word is short. Assumes nothing.
+-- `wire_log::text::line_length` meets its contract: a word is short. Assumes nothing.
 use native.Mathlib.Omega.{arith}
 use Rattle.wire_log.proofs.Lines.{word_short}
 use Rattle.wire_log.proofs.text.line_length.Goals as goal

@@ -1,4 +1,5 @@
--- `log::text::put_from` meets its contract. The invariant: the bytes that are left, laid from here on, make the whole. Assumes nothing.
+-- `wire_log::text::put_from` meets its contract. The invariant: the bytes that are left, laid from here on, make the whole. Assumes
+-- nothing.
 use native.Mathlib.Omega.{arith}
 use mathlib.Core.Path.{refl, sym}
 use lib.ListN.{drop}

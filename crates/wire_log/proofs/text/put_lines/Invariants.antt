@@ -1,4 +1,5 @@
--- `wire_log::text::put_lines` meets its contract. The invariant: the lines that are left, laid from here on, make the whole. Assumes nothing.
+-- `wire_log::text::put_lines` meets its contract. The invariant: the lines that are left, laid from here on, make the whole. Assumes
+-- nothing.
 use mathlib.Core.Path.{◌≡◌}
 use Prim.Native.Nat.{◌-◌, ◌≤◌}
 use lib.ListN.{length, take, drop}

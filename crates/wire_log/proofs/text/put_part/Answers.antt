@@ -1,4 +1,5 @@
--- `wire_log::text::put_part` meets its contract. The invariant: the bytes that are left, laid from here on, make the whole. Assumes nothing.
+-- `wire_log::text::put_part` meets its contract. The invariant: the bytes that are left, laid from here on, make the whole. Assumes
+-- nothing.
 use mathlib.Core.Path.{refl}
 use Rattle.wire_log.proofs.Windows.{laying_start, laying_more, laying_end, laying_full, window_is}
 use Rattle.wire_log.proofs.text.put_part.Goals as goal

@@ -1,4 +1,4 @@
--- `log::text::put_refused` meets its contract: the line is made of the refusal's number. Assumes nothing.
+-- `wire_log::text::put_refused` meets its contract: the line is made of the refusal's number. Assumes nothing.
 use Prim.Native.Nat.{ℕ, ◌+◌, ◌/◌, ◌%◌}
 use mathlib.Core.Path.{◌≡◌, ap, ◌∙◌}
 use mathlib.Core.List.{List, [], ◌∷◌, ◌++◌}

@@ -1,4 +1,4 @@
--- `log::text::text` meets its contract: at each return what the check said. Assumes nothing.
+-- `wire_log::text::text` meets its contract: at each return what the check said. Assumes nothing.
 use mathlib.Core.Path.{sym, ap, ◌∙◌}
 use mathlib.Core.List.{List}
 use Prim.Native.Nat.{ℕ}

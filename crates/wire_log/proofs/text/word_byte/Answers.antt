@@ -1,4 +1,4 @@
--- `log::text::word_byte` meets its contract: at each return the word of the kind. Assumes nothing.
+-- `wire_log::text::word_byte` meets its contract: at each return the word of the kind. Assumes nothing.
 use Prim.Native.Nat.{ℕ}
 use mathlib.Core.Path.{◌≡◌, sym, ap, ◌∙◌}
 use mathlib.Core.List.{List}

@@ -1,4 +1,4 @@
--- `log::text::word_length` meets its contract: all words but that of a reply have seven letters. Assumes nothing.
+-- `wire_log::text::word_length` meets its contract: all words but that of a reply have seven letters. Assumes nothing.
 use mathlib.Core.Path.{sym, ap}
 use lib.ListN.{length}
 use Rattle.wire_log.proofs.Lines.{is_reply, word_seven}

@@ -1,4 +1,4 @@
--- `log::writer::add_after` meets its contract: at each return the tests that led there. Assumes nothing.
+-- `wire_log::writer::add_after` meets its contract: at each return the tests that led there. Assumes nothing.
 use mathlib.Core.Path.{sym, ◌∙◌}
 use native.Mathlib.Omega.{arith}
 use Rattle.wire_log.proofs.Adding.{laid_unknown, laid-over, laid_short, laid_done}

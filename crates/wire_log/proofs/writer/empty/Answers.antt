@@ -1,4 +1,4 @@
--- `log::writer::empty` meets its contract: two writes, one after another. Assumes nothing.
+-- `wire_log::writer::empty` meets its contract: two writes, one after another. Assumes nothing.
 use Rattle.wire_log.proofs.Adding.{empty_refused, empty-laid}
 use Rattle.wire_log.proofs.writer.empty.Goals as goal
 

@@ -1,4 +1,5 @@
--- `log::writer::put_bytes` meets its contract. The invariant: the bytes that are left, written from here on, make the whole. Assumes nothing.
+-- `wire_log::writer::put_bytes` meets its contract. The invariant: the bytes that are left, written from here on, make the whole. Assumes
+-- nothing.
 use mathlib.Core.Path.{◌≡◌}
 use Prim.Native.Nat.{◌+◌, ◌-◌, ◌≤◌}
 use lib.ListN.{length, drop}

@@ -1,4 +1,4 @@
--- `log::writer::put_number` meets its contract: the number fits, and the room is there. Assumes nothing.
+-- `wire_log::writer::put_number` meets its contract: the number fits, and the room is there. Assumes nothing.
 use mathlib.Core.Path.{ap, ◌∙◌}
 use mathlib.Core.List.{List}
 use Prim.Native.Nat.{ℕ}
