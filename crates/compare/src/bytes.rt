@@ -40,7 +40,7 @@ fn same_by(x: &[u8], y: &[u8], width: usize) -> bool
     same_block(&x[last..], &y[last..])
 }
 
-pub(crate) fn same_bytes_lem(x: &[u8], y: &[u8]) -> bool
+pub(crate) fn same_bytes(x: &[u8], y: &[u8]) -> bool
     ensures { result ≡ same_bytes x.now y.now }
 {
     let n = x.len();

@@ -12,7 +12,7 @@ ghost use Rattle.compare.specs.Compare.{mark_of, equal_places, compare as compar
 ghost use Rattle.compare.specs.Paper.{paper_compared};
 ghost use Rattle.compare.specs.Private.{marks_to};
 
-use crate::bytes::same_bytes_lem;
+use crate::bytes::same_bytes;
 use refusal::Refusal;
 use wire_log::Answer;
 use wire_log::oldest::{Found, back_over, newest};
@@ -51,7 +51,7 @@ fn mark(a: &[u8], x: Found, b: &[u8], y: Found) -> u8
     let x_end = x_start + x.size;
     let y_start = y.start;
     let y_end = y_start + y.size;
-    if same_bytes_lem(&a[x_start..x_end], &b[y_start..y_end]) {
+    if same_bytes(&a[x_start..x_end], &b[y_start..y_end]) {
         return SAME;
     }
     DIFFER

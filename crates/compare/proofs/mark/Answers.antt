@@ -7,14 +7,14 @@ returns-then-x-y c =
     let g = c.args in
     mark-kinds g.a.now g.b.now g.x.kind g.x.start g.x.size g.y.kind g.y.start g.y.size c.if-x-y.true
 
-pub returns-then-same_bytes_lem : goal.returns-then-same_bytes_lem
-returns-then-same_bytes_lem c =
+pub returns-then-same_bytes : goal.returns-then-same_bytes
+returns-then-same_bytes c =
     let g = c.args in
     mark-same g.a.now g.b.now g.x.kind g.x.start g.x.size g.y.kind g.y.start g.y.size c.if-x-y.false
-    c.same_bytes_lem.ensures c.if-same_bytes_lem.true
+    c.same_bytes.ensures c.if-same_bytes.true
 
 pub returns : goal.returns
 returns c =
     let g = c.args in
     mark-differ g.a.now g.b.now g.x.kind g.x.start g.x.size g.y.kind g.y.start g.y.size c.if-x-y.false
-    c.same_bytes_lem.ensures c.if-same_bytes_lem.false
+    c.same_bytes.ensures c.if-same_bytes.false
