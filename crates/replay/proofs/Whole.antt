@@ -6,7 +6,7 @@ use mathlib.Core.Bool.{Bool, true, false, not}
 use mathlib.Core.List.{List, [], reverse}
 use lib.ListN.{length, take}
 use lib.Seq.{take_all}
-use borrow.Author.Tests.{le-ltb, not_true, not-false}
+use borrow.Author.Tests.{le-ltb, not-true, not-false}
 use Rattle.refusal.specs.declared.Refusal.{Refusal}
 use Rattle.refusal.specs.Refusals.{Numbered, number, Answered, served, refused}
 use Rattle.refusal.proofs.Order.{refused_not_served}
@@ -103,7 +103,7 @@ module _ (file : List ℕ) (lease room : ℕ) (r : Listed) (count : ℕ) (rows :
 
   pub lease_refused : (b : Bool) → b ≡ lease_in_range lease → not b ≡ true → (r ≡ counted (refused (number 12))) × (count ≡ 0) × (rows ≡ empty) → Whole
   unfolding replayed
-  lease_refused b e h g = whole (refused (number 12)) (rw (← e, not_true b h)) (given_refused (number 12) [] room r count rows g)
+  lease_refused b e h g = whole (refused (number 12)) (rw (← e, not-true b h)) (given_refused (number 12) [] room r count rows g)
 
   module _ (b : Bool) (e : b ≡ lease_in_range lease) (h : not b ≡ false) where
     check_refused : (n : Numbered) → records_of kinds file ≡ refused n → replayed file lease ≡ refused n

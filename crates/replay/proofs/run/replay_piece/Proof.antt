@@ -12,11 +12,12 @@ use Rattle.receiver.proofs.Cases.{taken_within}
 use Rattle.receiver.proofs.Callers.{fed_in_range, fed_some}
 use Rattle.replay.specs.Private.{kept_as, frame_length}
 use Rattle.replay.proofs.GoingOn.{Rest, rest_call, rest_end, frame-holds}
+use Rattle.std.proofs.lemmas.Grind.{common_steps}
 use Rattle.replay.proofs.run.replay_piece.Statement.{statement}
 use Rattle.replay.proofs.run.replay_piece.Tie as tie
 
-abbrev invariant-loop : tie.invariant-loop
-invariant-loop lease side store₀ piece frame₀ board₀ r₀ d₀ at₀ store frame board r d at =
+abbrev invariant-loop-at : tie.invariant-loop-at
+invariant-loop-at lease side store₀ piece frame₀ board₀ r₀ d₀ at₀ store frame board r d at =
     (at ≤ length piece)
     × (length store ≡ length store₀)
     × (length frame ≡ length frame₀)
@@ -25,80 +26,104 @@ invariant-loop lease side store₀ piece frame₀ board₀ r₀ d₀ at₀ store
     × (length board ≡ length board₀)
     × Rest lease side (held r₀ store₀) (kept_as d₀ board₀) piece (held r store) (kept_as d board) (drop at piece)
 
-abbrev decreases-loop : tie.decreases-loop
-decreases-loop lease side store₀ piece frame₀ board₀ r₀ d₀ at₀ store frame board r d at = length piece - at
+abbrev decreases-loop-at : tie.decreases-loop-at
+decreases-loop-at lease side store₀ piece frame₀ board₀ r₀ d₀ at₀ store frame board r d at = length piece - at
 
 -- a call of `feed` in a turn
-module _ (f : tie.After-feed invariant-loop decreases-loop) where
+module _ (f : tie.After-feed-fed invariant-loop-at decreases-loop-at) where
   abbrev whole : List ℕ
-  whole = f.before.before.before.before.before.before.before.before.before.before.args.piece.now
+  whole = f.args.piece.now
 
   abbrev place : ℕ
-  place = f.before.before.before.before.before.loop.at
+  place = f.loop-at.at
 
   abbrev rec : Record
-  rec = held f.before.before.before.before.before.loop.r f.before.before.before.before.before.loop.store
+  rec = held f.loop-at.r f.loop-at.store
 
   abbrev part : List ℕ
   part = take (length whole - place) (drop place whole)
 
   abbrev gave : Outcome
-  gave = paper_fed f.feed.result f.feed.last.1.0 f.feed.last.1.1.1.1.0
+  gave = paper_fed f.feed-fed.result f.feed-fed.new.store f.feed-fed.new.frame
 
-  room : 260 ≤ length f.before.before.before.before.before.loop.frame
-  room = f.before.before.before.before.before.loop.inv.3
+  room : 260 ≤ length f.loop-at.frame
+  room = f.loop-at.invariant.3
 
   ranged : in_range rec ≡ true
-  ranged = f.before.before.before.before.before.loop.inv.4
+  ranged = f.loop-at.invariant.4
 
   part_length : length part ≡ length whole - place
   part_length = omega (arith, length-take (length whole - place) (drop place whole), length-drop place whole)
 
-  bound : place + f.feed.result.taken ≤ length whole
+  bound : place + f.feed-fed.result.taken ≤ length whole
   bound =
-      let t : f.feed.result.taken ≤ length part = taken_within f.feed.result _ _ _ _ _ _ f.feed.ensures in
-      let i : place < length whole = f.before.before.before.before.loop-test.taken in
+      let t : f.feed-fed.result.taken ≤ length part = taken_within f.feed-fed.result _ _ _ _ _ _ f.feed-fed.ensures in
+      let i : place < length whole = f.loop-at-test.true in
       omega (arith, part_length)
 
-  more : 1 ≤ f.feed.result.taken
+  more : 1 ≤ f.feed-fed.result.taken
   more =
-      let i : place < length whole = f.before.before.before.before.loop-test.taken in
-      fed_some rec ranged part f.before.before.before.before.before.loop.frame gave room f.feed.ensures (omega (arith, part_length))
+      let i : place < length whole = f.loop-at-test.true in
+      fed_some rec ranged part f.loop-at.frame gave room f.feed-fed.ensures (omega (arith, part_length))
 
-  within : frame_length f.feed.result.answer ≤ length f.feed.last.1.1.1.1.0
-  within = frame-holds f.feed.result _ _ _ _ _ _ f.feed.ensures
+  within : frame_length f.feed-fed.result.answer ≤ length f.feed-fed.new.frame
+  within = frame-holds f.feed-fed.result _ _ _ _ _ _ f.feed-fed.ensures
 
-pub replay-piece-spec : {M : Type 1} → statement M
-replay-piece-spec =
+loop-at-init : tie.Need-loop-at-init invariant-loop-at decreases-loop-at
+loop-at-init c = let s = c.before.before.before.before in (omega arith, refl, refl, s.requires.1, s.requires.0, refl, λ last end h. h)
+
+note_answer-d-requires : tie.Need-note_answer-d-requires invariant-loop-at decreases-loop-at
+note_answer-d-requires c κs = within c.before.before.before.before.before.before.before
+
+overflow_add-at : tie.Need-overflow_add-at invariant-loop-at decreases-loop-at
+overflow_add-at c = let f = c.before.before.before.before.before.before.before.before.before.before in
+    omega (arith, bound f, f.well-formed.1.1.1.1.0.0)
+
+loop-at-smaller : tie.Need-loop-at-smaller invariant-loop-at decreases-loop-at
+loop-at-smaller c = let f = c.before.before.before.before.before.before.before.before.before.before in
+    omega (arith, bound f, more f)
+
+loop-at-preserved : tie.Need-loop-at-preserved invariant-loop-at decreases-loop-at
+loop-at-preserved c = let n = c.before.before in
+    let f = n.before.before.before.before.before.before.before.before in
+    let l = f.loop-at in (
+      bound f,
+      f.feed-fed.new.store ∙ l.invariant.1,
+      f.feed-fed.new.frame ∙ l.invariant.2,
+      omega (arith, room f, f.feed-fed.new.frame),
+      fed_in_range (rec f) (ranged f) false (part f) l.frame (gave f) (room f) f.feed-fed.ensures,
+      n.note_answer-d.auto.board ∙ l.invariant.5,
+      rest_call _ _ _ _ (whole f) (rec f) _ _ l.frame (gave f) (place f) _ refl (room f) f.feed-fed.ensures n.note_answer-d.ensures l.invariant.6,
+    )
+
+shape_of-store : tie.Need-shape_of-store invariant-loop-at decreases-loop-at
+shape_of-store c = c.loop-at.invariant.1
+
+shape_of-frame : tie.Need-shape_of-frame invariant-loop-at decreases-loop-at
+shape_of-frame c = c.loop-at.invariant.2
+
+shape_of-board : tie.Need-shape_of-board invariant-loop-at decreases-loop-at
+shape_of-board c = c.loop-at.invariant.5
+
+returns : tie.Need-returns invariant-loop-at decreases-loop-at
+returns c = (rest_end _ _ _ _ _ _ _ c.loop-at.at (omega arith) c.loop-at.invariant.6, c.loop-at.invariant.4)
+
+pub replay_piece_spec : {M : Type 1} → statement M
+replay_piece_spec =
     tie.close
     (tie.spec
-    invariant-loop
-    decreases-loop
-    (λ c. let s = c.before.before.before.before in (omega arith, refl, refl, s.requires.1, s.requires.0, refl, λ last end h. h))
-    (λ c. search rules)
-    (λ c. search rules)
-    (λ c. search rules)
-    (λ c κs. search rules)
-    (λ c κs. within c.before.before.before.before.before.before.before)
-    (λ c.
-    let f = c.before.before.before.before.before.before.before.before.before.before in
-    omega (arith, bound f, f.before.before.before.before.before.before.before.before.before.before.well-formed.1.1.1.1.0.0))
-    (λ c.
-    let f = c.before.before.before.before.before.before.before.before.before.before in
-    omega (arith, bound f, more f))
-    (λ c.
-    let n = c.before.before in
-    let f = n.before.before.before.before.before.before.before.before in
-    let l = f.before.before.before.before.before.loop in (
-      bound f,
-      f.feed.auto.1.0 ∙ l.invariant.1,
-      f.feed.auto.1.1.1.1.0 ∙ l.invariant.2,
-      omega (arith, room f, f.feed.auto.1.1.1.1.0),
-      fed_in_range (rec f) (ranged f) false (part f) l.frame (gave f) (room f) f.feed.ensures,
-      n.note-answer.auto.1.1.1.0 ∙ l.invariant.5,
-      rest_call _ _ _ _ (whole f) (rec f) _ _ l.frame (gave f) (place f) _ refl (room f) f.feed.ensures n.note-answer.ensures l.invariant.6,
-    ))
-    (λ c. c.before.loop.invariant.1)
-    (λ c. c.before.loop.invariant.2)
-    (λ c. c.before.loop.invariant.5)
-    (λ c. (rest_end _ _ _ _ _ _ _ c.before.loop.at (omega arith) c.before.loop.invariant.6, c.before.loop.invariant.4)))
+    invariant-loop-at
+    decreases-loop-at
+    loop-at-init
+    (λ c. first_of (search rules, grind (arith, common_steps)))
+    (λ c. first_of (search rules, grind (arith, common_steps)))
+    (λ c. first_of (search rules, grind (arith, common_steps)))
+    (λ c κs. first_of (search rules, grind (arith, common_steps)))
+    note_answer-d-requires
+    overflow_add-at
+    loop-at-smaller
+    loop-at-preserved
+    shape_of-store
+    shape_of-frame
+    shape_of-board
+    returns)
