@@ -180,7 +180,7 @@ fn is_unsayable(number: u8, n: u32) -> bool
 }
 
 // Writes the frame of the reply to a request.
-fn write_known_lem(
+fn write_known(
     address: u8,
     request: Request,
     reply: u8,
@@ -218,7 +218,7 @@ pub extern "C" fn mfc_write_reply(
 {
     match sfc6::request_of(place(request), value) {
         Typed::Refused(r) => not_written(r),
-        Typed::Known(asked) => write_known_lem(address, asked, reply, reply_value, text, bit7, out),
+        Typed::Known(asked) => write_known(address, asked, reply, reply_value, text, bit7, out),
     }
 }
 
