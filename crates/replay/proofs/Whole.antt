@@ -2,11 +2,11 @@
 use Prim.Native.Nat.{ℕ, ◌-◌, ◌≤◌}
 use native.Mathlib.Omega.{arith}
 use mathlib.Core.Path.{◌≡◌, sym, ap, subst, ◌∙◌}
-use mathlib.Core.Bool.{Bool, true, false, not}
+use mathlib.Core.Bool.{Bool, true, false}
 use mathlib.Core.List.{List, [], reverse}
 use lib.ListN.{length, take}
 use lib.Seq.{take_all}
-use borrow.Author.Tests.{le-ltb, not-true, not-false}
+use borrow.Author.Tests.{le-ltb}
 use Rattle.refusal.specs.declared.Refusal.{Refusal}
 use Rattle.refusal.specs.Refusals.{Numbered, number, Answered, served, refused}
 use Rattle.refusal.proofs.Order.{refused_not_served}
@@ -101,14 +101,14 @@ module _ (file : List ℕ) (lease room : ℕ) (r : Listed) (count : ℕ) (rows :
   unfolding replay_answer
   whole a e g = subst Replays (sym e) g
 
-  pub lease_refused : (b : Bool) → b ≡ lease_in_range lease → not b ≡ true → (r ≡ counted (refused (number 12))) × (count ≡ 0) × (rows ≡ empty) → Whole
+  pub lease_refused : (b : Bool) → b ≡ lease_in_range lease → b ≡ false → (r ≡ counted (refused (number 12))) × (count ≡ 0) × (rows ≡ empty) → Whole
   unfolding replayed
-  lease_refused b e h g = whole (refused (number 12)) (rw (← e, not-true b h)) (given_refused (number 12) [] room r count rows g)
+  lease_refused b e h g = whole (refused (number 12)) (rw (← e, h)) (given_refused (number 12) [] room r count rows g)
 
-  module _ (b : Bool) (e : b ≡ lease_in_range lease) (h : not b ≡ false) where
+  module _ (b : Bool) (e : b ≡ lease_in_range lease) (h : b ≡ true) where
     check_refused : (n : Numbered) → records_of kinds file ≡ refused n → replayed file lease ≡ refused n
     unfolding replayed
-    check_refused n f = rw (← e, not-false b h, f)
+    check_refused n f = rw (← e, h, f)
 
     counting_refused : (n : Numbered) (a : Answered (List LogRecord)) → refused n ≡ counting a → a ≡ refused n
     counting_refused n (served l) f = absurd (refused_not_served f)
@@ -120,7 +120,7 @@ module _ (file : List ℕ) (lease room : ℕ) (r : Listed) (count : ℕ) (rows :
     served_board : (listed' : List LogRecord) → records_of kinds file ≡ served listed'
         → replayed file lease ≡ list_of (board_of file lease)
     unfolding replayed replayed_by board_of
-    served_board l f = rw (← e, not-false b h, f)
+    served_board l f = rw (← e, h, f)
 
     pub log_replayed : (n : ℕ) → served n ≡ counting (records_of kinds file) → Replays (list_of (board_of file lease)) → Whole
     log_replayed n f g = whole (list_of (board_of file lease)) (served_board (p file n lease f).listing (p file n lease f).is) g

@@ -1,5 +1,4 @@
 -- `replay::fresh` meets its contract. Assumes nothing.
-use borrow.Author.Rules.{rules}
 use mathlib.Core.Path.{◌∙◌}
 use Rattle.replay.proofs.Whole.{fresh-made, never_refused}
 use Rattle.replay.proofs.fresh.Goals as goal

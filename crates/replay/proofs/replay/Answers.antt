@@ -1,5 +1,4 @@
 -- `replay::replay` meets its contract. Assumes nothing.
-use borrow.Author.Rules.{rules}
 use mathlib.Core.Path.{sym, ap, ◌∙◌}
 use Rattle.wire_log.specs.Paper.{paper_answer}
 use Rattle.replay.proofs.Whole.{lease_refused, log_refused, log_replayed}

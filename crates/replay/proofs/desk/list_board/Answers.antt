@@ -1,5 +1,4 @@
 -- `replay::desk::list_board` meets its contract. Assumes nothing.
-use borrow.Author.Rules.{rules}
 use borrow.Author.Tests.{eq-eqb, ne_eqb}
 use Rattle.replay.proofs.Carrying.{list_late, list_no_room, list_done, good_served, few_listed}
 use Rattle.replay.proofs.desk.list_board.Goals as goal

@@ -1,5 +1,4 @@
 -- `replay::desk::note_poll` meets its contract. Assumes nothing.
-use borrow.Author.Rules.{rules}
 use mathlib.Core.Path.{refl}
 use Rattle.replay.proofs.Carrying.{kept_put}
 use Rattle.replay.proofs.desk.note_poll.Goals as goal

@@ -1,5 +1,4 @@
 -- `replay::desk::note_reply` meets its contract. Assumes nothing.
-use borrow.Author.Rules.{rules}
 use mathlib.Core.Path.{subst, sym}
 use Rattle.replay.specs.Private.{latest_as, OfLog}
 use Rattle.replay.proofs.Carrying.{kept_put}

@@ -1,5 +1,4 @@
 -- `replay::desk::note_request` meets its contract. Assumes nothing.
-use borrow.Author.Rules.{rules}
 use mathlib.Core.Path.{refl, sym, ap, ◌∙◌}
 use Rattle.sfc6.specs.Paper.{paper_read}
 use Rattle.replay.specs.Private.{known}

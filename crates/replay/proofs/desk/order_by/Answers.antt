@@ -1,5 +1,4 @@
 -- `replay::desk::order_by` meets its contract. Assumes nothing.
-use borrow.Author.Rules.{rules}
 use mathlib.Core.Path.{ap}
 use Rattle.replay.specs.Private.{latest_as}
 use Rattle.replay.proofs.Carrying.{order_known}

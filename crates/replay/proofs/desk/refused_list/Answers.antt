@@ -1,5 +1,4 @@
 -- `replay::desk::refused_list` meets its contract. Assumes nothing.
-use borrow.Author.Rules.{rules}
 use mathlib.Core.Path.{ap, ◌∙◌}
 use Prim.Native.Nat.{ℕ}
 use Rattle.refusal.specs.Refusals.{number, refused}

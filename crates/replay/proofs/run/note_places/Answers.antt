@@ -1,12 +1,7 @@
 -- `replay::run::note_places` meets its contract. Assumes nothing.
-use borrow.Author.Rules.{rules}
-use Prim.Native.Nat.{◌-◌, ◌≤◌}
-use mathlib.Core.Path.{◌≡◌, refl, ◌∙◌}
+use mathlib.Core.Path.{refl, ◌∙◌}
 use native.Mathlib.Omega.{arith}
-use lib.ListN.{length, length-set}
-use Rattle.wire_log.specs.Log.{kinds}
-use Rattle.wire_log.specs.Oldest.{LeavesOut}
-use Rattle.replay.specs.Private.{Noted}
+use lib.ListN.{length-set}
 use Rattle.replay.proofs.Halving.{leaves_none, leaves_more, noted_none, noted_more, noted_all}
 use Rattle.replay.proofs.run.note_places.Goals as goal
 
@@ -20,13 +15,12 @@ pub loop-k-smaller : goal.loop-k-smaller
 loop-k-smaller c = omega (arith, c.loop-k-test.true)
 
 pub loop-k-preserved : goal.loop-k-preserved
-loop-k-preserved c = let l = c.loop-k in
-    (
-      omega (arith, c.loop-k-test.true),
-      length-set l.places l.k l.at ∙ l.invariant.1,
-      leaves_more _ _ l.k _ _ c.requires.0 l.invariant.2 c.back_over-at.ensures,
-      noted_more _ _ _ _ l.places (omega (arith, c.loop-k-test.true, l.invariant.1, c.requires.1)) l.invariant.2 l.invariant.3,
-    )
+loop-k-preserved c = let l = c.loop-k in (
+  omega (arith, c.loop-k-test.true),
+  length-set l.places l.k l.at ∙ l.invariant.1,
+  leaves_more _ _ l.k _ _ c.requires.0 l.invariant.2 c.back_over-at.ensures,
+  noted_more _ _ _ _ l.places (omega (arith, c.loop-k-test.true, l.invariant.1, c.requires.1)) l.invariant.2 l.invariant.3,
+)
 
 pub shape_of-places : goal.shape_of-places
 shape_of-places c = c.loop-k.invariant.1

@@ -1,13 +1,10 @@
 -- `replay::run::note_places` meets its contract. Assumes nothing.
-use borrow.Author.Rules.{rules}
 use Prim.Native.Nat.{◌-◌, ◌≤◌}
-use mathlib.Core.Path.{◌≡◌, refl, ◌∙◌}
-use native.Mathlib.Omega.{arith}
-use lib.ListN.{length, length-set}
+use mathlib.Core.Path.{◌≡◌}
+use lib.ListN.{length}
 use Rattle.wire_log.specs.Log.{kinds}
 use Rattle.wire_log.specs.Oldest.{LeavesOut}
 use Rattle.replay.specs.Private.{Noted}
-use Rattle.replay.proofs.Halving.{leaves_none, leaves_more, noted_none, noted_more, noted_all}
 use Rattle.replay.proofs.run.note_places.Given as goal
 
 abbrev pub invariant-loop-k : goal.invariant-loop-k

@@ -1,12 +1,8 @@
 -- `replay::run::replay_block` meets its contract. Assumes nothing.
-use borrow.Author.Rules.{rules}
 use Prim.Native.Nat.{◌-◌, ◌≤◌, ◌<◌}
-use mathlib.Core.Path.{◌≡◌, refl, ◌∙◌}
+use mathlib.Core.Path.{refl, ◌∙◌}
 use native.Mathlib.Omega.{arith}
-use lib.ListN.{length}
-use Rattle.receiver.specs.Record.{held}
-use Rattle.replay.specs.Private.{kept_as, RunsOn, Ready, Noted}
-use Rattle.replay.proofs.Halving.{older_of, middle_in, older_there, block_none, block_one, block_all, noted-at}
+use Rattle.replay.proofs.Halving.{middle_in, older_there, block_none, block_one, block_all, noted-at}
 use Rattle.replay.proofs.run.replay_block.Goals as goal
 
 pub replay_one-r-requires : goal.replay_one-r-requires

@@ -1,5 +1,4 @@
 -- `replay::run::replay_mark` meets its contract. Assumes nothing.
-use borrow.Author.Rules.{rules}
 use Rattle.receiver.proofs.Callers.{fed_in_range}
 use mathlib.Core.Bool.{true}
 use Rattle.replay.proofs.GoingOn.{marked}
