@@ -6,15 +6,23 @@ mod setup;
 mod show;
 mod table;
 
-fn main() {
-    table::openings();
-    table::closings();
-    table::numbers();
-    table::restarts();
-    table::ranges();
-    table::polls();
-    table::freed_places();
-    table::lists();
-    table::spoilt_tables();
-    table::full_tables();
+use show::Output;
+use std::io;
+
+fn main(rt: HostRuntime) -> io::Result<()> {
+    let mut to = Output {
+        stdout: rt.stdout(),
+        written: Ok(()),
+    };
+    table::openings(&mut to);
+    table::closings(&mut to);
+    table::numbers(&mut to);
+    table::restarts(&mut to);
+    table::ranges(&mut to);
+    table::polls(&mut to);
+    table::freed_places(&mut to);
+    table::lists(&mut to);
+    table::spoilt_tables(&mut to);
+    table::full_tables(&mut to);
+    to.written
 }

@@ -9,9 +9,9 @@ use board::numbers::{order_close, order_open, order_poll, order_restart};
 use board::orders::{Answer, Order, apply};
 use handover::{order_by_code, order_by_reply, order_of_command, order_of_reply};
 use i2c::command::Sfc6;
-use libc::STDOUT_FILENO;
 use replies::ReadReply;
 use sfc6::Request;
+use std::io::{self, Print, Stdout};
 
 // The lease of what is opened by a command or a reply.
 const LEASE: u32 = 9;
@@ -19,209 +19,242 @@ const LEASE: u32 = 9;
 // The most places that are put out one by one.
 const FEW: usize = 8;
 
-pub(crate) fn open(p: Places, bus: u8, address: u8, kind: u8, lease: u32) -> Places {
-    text(b"open");
-    entry(bus, address, kind);
-    text(b", lease ");
-    decimal(lease as u64);
-    carried(p, order_open(bus, address, kind, lease))
+// Where the lines go, and whether all were written. After a write that failed nothing more is written, and main returns its error.
+#[derive(Drop)]
+pub(crate) struct Output {
+    pub(crate) stdout: Stdout,
+    pub(crate) written: io::Result<()>,
 }
 
-pub(crate) fn close(p: Places, bus: u8, address: u8, kind: u8) -> Places {
-    text(b"close");
-    entry(bus, address, kind);
-    carried(p, order_close(bus, address, kind))
+pub(crate) fn open(
+    to: &mut Output,
+    p: Places,
+    bus: u8,
+    address: u8,
+    kind: u8,
+    lease: u32,
+) -> Places {
+    text(to, b"open");
+    entry(to, bus, address, kind);
+    text(to, b", lease ");
+    decimal(to, lease as u64);
+    carried(to, p, order_open(bus, address, kind, lease))
 }
 
-pub(crate) fn restart(p: Places, bus: u8, address: u8) -> Places {
-    text(b"restart");
-    node(bus, address);
-    carried(p, order_restart(bus, address))
+pub(crate) fn close(to: &mut Output, p: Places, bus: u8, address: u8, kind: u8) -> Places {
+    text(to, b"close");
+    entry(to, bus, address, kind);
+    carried(to, p, order_close(bus, address, kind))
 }
 
-pub(crate) fn poll(p: Places) -> Places {
-    text(b"poll");
-    carried(p, order_poll())
+pub(crate) fn restart(to: &mut Output, p: Places, bus: u8, address: u8) -> Places {
+    text(to, b"restart");
+    node(to, bus, address);
+    carried(to, p, order_restart(bus, address))
+}
+
+pub(crate) fn poll(to: &mut Output, p: Places) -> Places {
+    text(to, b"poll");
+    carried(to, p, order_poll())
 }
 
 // A command on I2C.
 pub(crate) fn command(
+    to: &mut Output,
     p: Places,
     ask: &[u8],
     address: u8,
     command: Sfc6,
     acknowledged: bool,
 ) -> Places {
-    asked(ask, address);
+    asked(to, ask, address);
     if !acknowledged {
-        text(b" not");
+        text(to, b" not");
     }
-    text(b" acknowledged");
-    carried(p, order_of_command(address, command, acknowledged, LEASE))
+    text(to, b" acknowledged");
+    carried(
+        to,
+        p,
+        order_of_command(address, command, acknowledged, LEASE),
+    )
 }
 
 // The body of a reply to a request, and how it is read.
-pub(crate) fn reply(p: Places, ask: &[u8], address: u8, request: Request, body: &[u8]) -> Places {
-    asked(ask, address);
-    text(b", reply");
-    each(body);
+pub(crate) fn reply(
+    to: &mut Output,
+    p: Places,
+    ask: &[u8],
+    address: u8,
+    request: Request,
+    body: &[u8],
+) -> Places {
+    asked(to, ask, address);
+    text(to, b", reply");
+    each(to, body);
     let read = replies::read_reply(address, request, body);
-    how_read(read);
-    carried(p, order_of_reply(address, request, read, LEASE))
+    how_read(to, read);
+    carried(to, p, order_of_reply(address, request, read, LEASE))
 }
 
 // An acknowledged command by its code.
-pub(crate) fn by_code(p: Places, ask: &[u8], address: u8, code: u16) -> Places {
-    asked(ask, address);
-    carried(p, order_by_code(address, code, LEASE))
+pub(crate) fn by_code(to: &mut Output, p: Places, ask: &[u8], address: u8, code: u16) -> Places {
+    asked(to, ask, address);
+    carried(to, p, order_by_code(address, code, LEASE))
 }
 
 // A request by its number, and the number of the refusal that its reply was read with.
-pub(crate) fn by_reply(p: Places, ask: &[u8], address: u8, request: u8, refusal: u8) -> Places {
-    asked(ask, address);
-    text(b", refusal ");
-    decimal(refusal as u64);
-    carried(p, order_by_reply(address, request, refusal, LEASE))
+pub(crate) fn by_reply(
+    to: &mut Output,
+    p: Places,
+    ask: &[u8],
+    address: u8,
+    request: u8,
+    refusal: u8,
+) -> Places {
+    asked(to, ask, address);
+    text(to, b", refusal ");
+    decimal(to, refusal as u64);
+    carried(to, p, order_by_reply(address, request, refusal, LEASE))
 }
 
-pub(crate) fn list(p: Places, room: usize) {
-    text(b"list, room ");
-    decimal(room as u64);
-    text(b":");
+pub(crate) fn list(to: &mut Output, p: Places, room: usize) {
+    text(to, b"list, room ");
+    decimal(to, room as u64);
+    text(to, b":");
     let s = list_places(p, room);
     let answer = s.answer;
     let q = s.places;
     if answer.refusal != 0 {
-        refused(answer.refusal);
+        refused(to, answer.refusal);
     } else {
-        text(b" ");
-        decimal(answer.count as u64);
-        text(b" listed");
+        text(to, b" ");
+        decimal(to, answer.count as u64);
+        text(to, b" listed");
     }
-    places(q);
-    text(b"\n");
+    places(to, q);
+    text(to, b"\n");
 }
 
 // What stands in one place.
-pub(crate) fn at(p: Places, i: usize) {
-    text(b"place ");
-    decimal(i as u64);
-    text(b":");
+pub(crate) fn at(to: &mut Output, p: Places, i: usize) {
+    text(to, b"place ");
+    decimal(to, i as u64);
+    text(to, b":");
     if i < 32 {
-        place(i, p.rows[i]);
+        place(to, i, p.rows[i]);
     }
-    text(b"\n");
+    text(to, b"\n");
 }
 
-fn carried(p: Places, order: Order) -> Places {
+fn carried(to: &mut Output, p: Places, order: Order) -> Places {
     let c = apply(p, order);
     let answer = c.answer;
     let q = c.places;
-    text(b":");
+    text(to, b":");
     match answer {
-        Answer::Done => text(b" done"),
-        Answer::Refused(why) => refused(refusal::number(why)),
+        Answer::Done => text(to, b" done"),
+        Answer::Refused(why) => refused(to, refusal::number(why)),
     }
-    held(q);
-    text(b"\n");
+    held(to, q);
+    text(to, b"\n");
     q
 }
 
 // The places one by one where they are few, else how many are held.
-fn held(p: Places) {
+fn held(to: &mut Output, p: Places) {
     let s = list_places(p, 32);
     let count = s.count;
     if count <= FEW {
-        places(p);
+        places(to, p);
     } else {
-        text(b", ");
-        decimal(count as u64);
-        text(b" held");
+        text(to, b", ");
+        decimal(to, count as u64);
+        text(to, b" held");
     }
 }
 
-fn places(p: Places) {
+fn places(to: &mut Output, p: Places) {
     let mut i = 0;
     while i < 32 {
-        place(i, p.rows[i]);
+        place(to, i, p.rows[i]);
         i += 1;
     }
 }
 
-fn place(i: usize, e: Entry) {
+fn place(to: &mut Output, i: usize, e: Entry) {
     if is_clear(e) {
         return;
     }
-    text(b" [");
-    decimal(i as u64);
-    entry(e.bus, e.address, e.kind);
-    text(b" ");
-    decimal(e.left as u64);
-    text(b"]");
+    text(to, b" [");
+    decimal(to, i as u64);
+    entry(to, e.bus, e.address, e.kind);
+    text(to, b" ");
+    decimal(to, e.left as u64);
+    text(to, b"]");
 }
 
 fn is_clear(e: Entry) -> bool {
     e.kind == 0 && e.bus == 0 && e.address == 0 && e.left == 0
 }
 
-fn entry(bus: u8, address: u8, kind: u8) {
-    node(bus, address);
+fn entry(to: &mut Output, bus: u8, address: u8, kind: u8) {
+    node(to, bus, address);
     match kind {
-        0 => text(b" free"),
-        1 => text(b" valve"),
-        2 => text(b" calibration"),
+        0 => text(to, b" free"),
+        1 => text(to, b" valve"),
+        2 => text(to, b" calibration"),
         _ => {
-            text(b" kind ");
-            decimal(kind as u64);
+            text(to, b" kind ");
+            decimal(to, kind as u64);
         }
     }
 }
 
-fn node(bus: u8, address: u8) {
+fn node(to: &mut Output, bus: u8, address: u8) {
     match bus {
-        0 => text(b" serial "),
-        1 => text(b" I2C "),
+        0 => text(to, b" serial "),
+        1 => text(to, b" I2C "),
         _ => {
-            text(b" bus ");
-            decimal(bus as u64);
-            text(b" ");
+            text(to, b" bus ");
+            decimal(to, bus as u64);
+            text(to, b" ");
         }
     }
-    decimal(address as u64);
+    decimal(to, address as u64);
 }
 
-fn asked(ask: &[u8], address: u8) {
-    text(ask);
-    text(b" at ");
-    decimal(address as u64);
+fn asked(to: &mut Output, ask: &[u8], address: u8) {
+    text(to, ask);
+    text(to, b" at ");
+    decimal(to, address as u64);
 }
 
-fn how_read(reply: ReadReply) {
+fn how_read(to: &mut Output, reply: ReadReply) {
     match reply {
-        ReadReply::Value(_, _) => text(b" accepted"),
-        ReadReply::Text(_, _, _) => text(b" accepted"),
-        ReadReply::Failed(_, _) => refused(15),
-        ReadReply::Refused(why) => refused(refusal::number(why)),
+        ReadReply::Value(_, _) => text(to, b" accepted"),
+        ReadReply::Text(_, _, _) => text(to, b" accepted"),
+        ReadReply::Failed(_, _) => refused(to, 15),
+        ReadReply::Refused(why) => refused(to, refusal::number(why)),
     }
 }
 
-fn refused(number: u8) {
-    text(b" refused ");
-    decimal(number as u64);
+fn refused(to: &mut Output, number: u8) {
+    text(to, b" refused ");
+    decimal(to, number as u64);
 }
 
-fn each(bytes: &[u8]) {
+fn each(to: &mut Output, bytes: &[u8]) {
     let mut i = 0;
     while i < bytes.len() {
-        byte(bytes[i]);
+        byte(to, bytes[i]);
         i += 1;
     }
 }
 
 // A byte in hexadecimal.
-fn byte(b: u8) {
+fn byte(to: &mut Output, b: u8) {
     let digits = [b' ', digit(b / 16), digit(b % 16)];
-    text(&digits);
+    text(to, &digits);
 }
 
 fn digit(d: u8) -> u8
@@ -230,10 +263,14 @@ fn digit(d: u8) -> u8
     if d < 10 { 48 + d } else { 55 + d }
 }
 
-fn decimal(n: u64) {
-    io::print_decimal(STDOUT_FILENO, n);
+fn decimal(to: &mut Output, n: u64) {
+    if to.written.is_ok() {
+        to.written = to.stdout.print(n);
+    }
 }
 
-fn text(s: &[u8]) {
-    io::write_all(STDOUT_FILENO, s);
+fn text(to: &mut Output, s: &[u8]) {
+    if to.written.is_ok() {
+        to.written = to.stdout.write_all(s);
+    }
 }

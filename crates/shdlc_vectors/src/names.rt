@@ -1,12 +1,12 @@
 // Requests and replies by their names, with the value that they carry behind a =.
 use crate::bytes::same;
-use crate::show::{bits, decimal, text};
+use crate::show::{Output, bits, decimal, text};
 use crate::words::{before, behind, byte_of, number};
 use replies::{Reading, Reply};
 use sfc6::Request;
 
 // The request of a name and a number, also of one that is out of its range. A name that is none is put out as such.
-fn named(name: &[u8], n: u32) -> Request {
+fn named(to: &mut Output, name: &[u8], n: u32) -> Request {
     if same(name, b"GetSetpoint") {
         return Request::GetSetpoint;
     }
@@ -68,52 +68,52 @@ fn named(name: &[u8], n: u32) -> Request {
         return Request::SetBaud(n);
     }
     if !same(name, b"ProductType") {
-        text(b" no request");
+        text(to, b" no request");
     }
     Request::ProductType
 }
 
 // The request that a word names.
-pub(crate) fn request_of(word: &[u8]) -> Request {
-    named(before(word, b'='), number(behind(word, b'=')))
+pub(crate) fn request_of(to: &mut Output, word: &[u8]) -> Request {
+    named(to, before(word, b'='), number(behind(word, b'=')))
 }
 
-fn float(name: &[u8], x: f32) {
-    text(name);
-    text(b"=");
-    bits(sfc6::bits_of(x));
+fn float(to: &mut Output, name: &[u8], x: f32) {
+    text(to, name);
+    text(to, b"=");
+    bits(to, sfc6::bits_of(x));
 }
 
-fn whole(name: &[u8], n: u32) {
-    text(name);
-    text(b"=");
-    decimal(n as u64);
+fn whole(to: &mut Output, name: &[u8], n: u32) {
+    text(to, name);
+    text(to, b"=");
+    decimal(to, n as u64);
 }
 
-pub(crate) fn request(asked: Request) {
-    text(b" ");
+pub(crate) fn request(to: &mut Output, asked: Request) {
+    text(to, b" ");
     match asked {
-        Request::GetSetpoint => text(b"GetSetpoint"),
-        Request::SetSetpoint(x) => float(b"SetSetpoint", x),
-        Request::MeasuredValue => text(b"MeasuredValue"),
-        Request::GetGain => text(b"GetGain"),
-        Request::SetGain(x) => float(b"SetGain", x),
-        Request::GetInitStep => text(b"GetInitStep"),
-        Request::SetInitStep(x) => float(b"SetInitStep", x),
-        Request::RawFlow => text(b"RawFlow"),
-        Request::RawConductivity => text(b"RawConductivity"),
-        Request::Temperature => text(b"Temperature"),
-        Request::NumberOfCalibrations => text(b"NumberOfCalibrations"),
-        Request::Validity(n) => whole(b"Validity", n),
-        Request::FullScale => text(b"FullScale"),
-        Request::GetCalibration => text(b"GetCalibration"),
-        Request::SetCalibration(n) => whole(b"SetCalibration", n),
-        Request::VolatileCalibration(n) => whole(b"VolatileCalibration", n),
-        Request::GetAddress => text(b"GetAddress"),
-        Request::SetAddress(a) => whole(b"SetAddress", a as u32),
-        Request::GetBaud => text(b"GetBaud"),
-        Request::SetBaud(rate) => whole(b"SetBaud", rate),
-        Request::ProductType => text(b"ProductType"),
+        Request::GetSetpoint => text(to, b"GetSetpoint"),
+        Request::SetSetpoint(x) => float(to, b"SetSetpoint", x),
+        Request::MeasuredValue => text(to, b"MeasuredValue"),
+        Request::GetGain => text(to, b"GetGain"),
+        Request::SetGain(x) => float(to, b"SetGain", x),
+        Request::GetInitStep => text(to, b"GetInitStep"),
+        Request::SetInitStep(x) => float(to, b"SetInitStep", x),
+        Request::RawFlow => text(to, b"RawFlow"),
+        Request::RawConductivity => text(to, b"RawConductivity"),
+        Request::Temperature => text(to, b"Temperature"),
+        Request::NumberOfCalibrations => text(to, b"NumberOfCalibrations"),
+        Request::Validity(n) => whole(to, b"Validity", n),
+        Request::FullScale => text(to, b"FullScale"),
+        Request::GetCalibration => text(to, b"GetCalibration"),
+        Request::SetCalibration(n) => whole(to, b"SetCalibration", n),
+        Request::VolatileCalibration(n) => whole(to, b"VolatileCalibration", n),
+        Request::GetAddress => text(to, b"GetAddress"),
+        Request::SetAddress(a) => whole(to, b"SetAddress", a as u32),
+        Request::GetBaud => text(to, b"GetBaud"),
+        Request::SetBaud(rate) => whole(to, b"SetBaud", rate),
+        Request::ProductType => text(to, b"ProductType"),
     }
 }
 
@@ -184,43 +184,43 @@ pub(crate) fn reply_of(word: &[u8]) -> Reply {
     Reply::DeviceError(byte_of(n))
 }
 
-fn reading(name: &[u8], x: Reading) {
-    text(name);
-    text(b"=");
+fn reading(to: &mut Output, name: &[u8], x: Reading) {
+    text(to, name);
+    text(to, b"=");
     match x {
-        Reading::Finite(v) => bits(sfc6::bits_of(v)),
-        Reading::Invalid => text(b"invalid"),
-        Reading::PlusInfinity => text(b"+infinity"),
-        Reading::MinusInfinity => text(b"-infinity"),
+        Reading::Finite(v) => bits(to, sfc6::bits_of(v)),
+        Reading::Invalid => text(to, b"invalid"),
+        Reading::PlusInfinity => text(to, b"+infinity"),
+        Reading::MinusInfinity => text(to, b"-infinity"),
     }
 }
 
-fn validity(v: bool) {
+fn validity(to: &mut Output, v: bool) {
     if v {
-        text(b"Validity=yes");
+        text(to, b"Validity=yes");
     } else {
-        text(b"Validity=no");
+        text(to, b"Validity=no");
     }
 }
 
-pub(crate) fn reply(got: Reply) {
-    text(b" ");
+pub(crate) fn reply(to: &mut Output, got: Reply) {
+    text(to, b" ");
     match got {
-        Reply::Acknowledged => text(b"Acknowledged"),
-        Reply::Setpoint(x) => reading(b"Setpoint", x),
-        Reply::MeasuredValue(x) => reading(b"MeasuredValue", x),
-        Reply::Gain(x) => reading(b"Gain", x),
-        Reply::InitStep(x) => reading(b"InitStep", x),
-        Reply::RawFlow(n) => whole(b"RawFlow", n as u32),
-        Reply::RawConductivity(n) => whole(b"RawConductivity", n as u32),
-        Reply::Temperature(x) => reading(b"Temperature", x),
-        Reply::NumberOfCalibrations(n) => whole(b"NumberOfCalibrations", n),
-        Reply::Validity(v) => validity(v),
-        Reply::FullScale(x) => reading(b"FullScale", x),
-        Reply::Calibration(n) => whole(b"Calibration", n),
-        Reply::Address(a) => whole(b"Address", a as u32),
-        Reply::Baud(rate) => whole(b"Baud", rate),
-        Reply::ProductType => text(b"ProductType"),
-        Reply::DeviceError(code) => whole(b"DeviceError", code as u32),
+        Reply::Acknowledged => text(to, b"Acknowledged"),
+        Reply::Setpoint(x) => reading(to, b"Setpoint", x),
+        Reply::MeasuredValue(x) => reading(to, b"MeasuredValue", x),
+        Reply::Gain(x) => reading(to, b"Gain", x),
+        Reply::InitStep(x) => reading(to, b"InitStep", x),
+        Reply::RawFlow(n) => whole(to, b"RawFlow", n as u32),
+        Reply::RawConductivity(n) => whole(to, b"RawConductivity", n as u32),
+        Reply::Temperature(x) => reading(to, b"Temperature", x),
+        Reply::NumberOfCalibrations(n) => whole(to, b"NumberOfCalibrations", n),
+        Reply::Validity(v) => validity(to, v),
+        Reply::FullScale(x) => reading(to, b"FullScale", x),
+        Reply::Calibration(n) => whole(to, b"Calibration", n),
+        Reply::Address(a) => whole(to, b"Address", a as u32),
+        Reply::Baud(rate) => whole(to, b"Baud", rate),
+        Reply::ProductType => text(to, b"ProductType"),
+        Reply::DeviceError(code) => whole(to, b"DeviceError", code as u32),
     }
 }

@@ -2,15 +2,26 @@
 ghost use Rattle.std.specs.Prelude.{◌<◌};
 
 use crate::bytes::run;
-use libc::STDOUT_FILENO;
 use refusal::Refusal;
+use std::io::{self, Print, Stdout};
 
-pub(crate) fn text(s: &[u8]) {
-    io::write_all(STDOUT_FILENO, s);
+// Where the lines go, and whether all were written. After a write that failed nothing more is written, and main returns its error.
+#[derive(Drop)]
+pub(crate) struct Output {
+    pub(crate) stdout: Stdout,
+    pub(crate) written: io::Result<()>,
 }
 
-pub(crate) fn decimal(n: u64) {
-    io::print_decimal(STDOUT_FILENO, n);
+pub(crate) fn text(to: &mut Output, s: &[u8]) {
+    if to.written.is_ok() {
+        to.written = to.stdout.write_all(s);
+    }
+}
+
+pub(crate) fn decimal(to: &mut Output, n: u64) {
+    if to.written.is_ok() {
+        to.written = to.stdout.print(n);
+    }
 }
 
 fn digit(d: u8) -> u8
@@ -19,54 +30,54 @@ fn digit(d: u8) -> u8
     if d < 10 { 48 + d } else { 55 + d }
 }
 
-fn two_digits(b: u8) {
+fn two_digits(to: &mut Output, b: u8) {
     let pair = [digit(b / 16), digit(b % 16)];
-    text(&pair);
+    text(to, &pair);
 }
 
 // The bits of a float: x and eight digits.
-pub(crate) fn bits(x: u32) {
-    text(b"x");
-    two_digits((x / 0x100_0000) as u8);
-    two_digits((x / 0x1_0000 % 256) as u8);
-    two_digits((x / 0x100 % 256) as u8);
-    two_digits((x % 256) as u8);
+pub(crate) fn bits(to: &mut Output, x: u32) {
+    text(to, b"x");
+    two_digits(to, (x / 0x100_0000) as u8);
+    two_digits(to, (x / 0x1_0000 % 256) as u8);
+    two_digits(to, (x / 0x100 % 256) as u8);
+    two_digits(to, (x % 256) as u8);
 }
 
-pub(crate) fn byte(b: u8) {
-    text(b" ");
-    two_digits(b);
+pub(crate) fn byte(to: &mut Output, b: u8) {
+    text(to, b" ");
+    two_digits(to, b);
 }
 
 // Bytes as the table writes them: eight and more of one kind are counted.
-pub(crate) fn bytes(all: &[u8]) {
+pub(crate) fn bytes(to: &mut Output, all: &[u8]) {
     let mut place: usize = 0;
     while place < all.len() {
-        byte(all[place]);
+        byte(to, all[place]);
         let n = run(all, place);
         if n < 8 {
             place += 1;
         } else {
-            text(b"*");
-            decimal(n as u64);
+            text(to, b"*");
+            decimal(to, n as u64);
             place += n;
         }
     }
 }
 
 // A refusal's number and, with 3 and 4, the place.
-pub(crate) fn refused(r: Refusal) {
+pub(crate) fn refused(to: &mut Output, r: Refusal) {
     let n = refusal::number(r);
-    text(b" refused ");
-    decimal(n as u64);
+    text(to, b" refused ");
+    decimal(to, n as u64);
     if n == 3 || n == 4 {
-        text(b" at ");
-        decimal(refusal::place(r) as u64);
+        text(to, b" at ");
+        decimal(to, refusal::place(r) as u64);
     }
 }
 
-pub(crate) fn flag(bit7: bool) {
+pub(crate) fn flag(to: &mut Output, bit7: bool) {
     if bit7 {
-        text(b" flag");
+        text(to, b" flag");
     }
 }
