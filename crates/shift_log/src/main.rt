@@ -1,15 +1,22 @@
 // Prints the shift log that its argument names, newest first, a line a record; of a file that is no log the one line of its refusal.
 #![tactic(auto)]
 
-use libc::{STDERR_FILENO, STDOUT_FILENO};
+ghost use Rattle.std.specs.Bool.{OnTrue};
+ghost use Rattle.std.specs.Io.KnownBytes.{Appends};
+ghost use Rattle.wire_log.specs.Log.{kinds};
+ghost use Rattle.wire_log.specs.Text.{log_text};
+
+use std::io::Write;
 
 // Prints all of a log's text, part after part.
-fn print(file: &[u8]) -> bool {
-    let mut out = io::buffer();
+fn print<W: Write>(to: &mut W, file: &[u8]) -> bool
+    ensures { OnTrue result (Appends (W.contents to.old) (W.contents to.new) (log_text kinds file.now)) }
+{
+    let mut out = [0u8; 4096];
     let mut from: usize = 0;
     let mut n = wire_log::text::text(file, from, &mut out);
     while 0 < n {
-        if !io::write_all(STDOUT_FILENO, &out[..n]) {
+        if !files::write_all(to, &out[..n]) {
             return false;
         }
         from += n;
@@ -18,27 +25,39 @@ fn print(file: &[u8]) -> bool {
     true
 }
 
-fn complain(text: &[u8]) {
-    io::write_all(STDERR_FILENO, text);
+fn complain<W: Write>(to: &mut W, text: &[u8]) {
+    files::write_all(to, text);
 }
 
-fn main() {
-    let mut name = io::buffer();
-    let n = os::arg(1, &mut name);
-    let fd = os::open_read(&name[..n]);
-    if fd < 0 {
-        os::fail(b"shift-log: the log cannot be opened");
-        return;
-    }
+fn main(rt: HostRuntime) {
+    let mut name = [0u8; 4096];
+    let n = files::argument(&rt, 1, &mut name);
+    let mut log = match files::open(&rt, &name[..n]) {
+        Ok(log) => log,
+        Err(why) => {
+            files::fail(
+                &mut rt.stderr(),
+                b"shift-log: the log cannot be opened",
+                &why,
+            );
+            return;
+        }
+    };
     // More than any log has.
-    let mut file = io::large_buffer();
-    let loaded = files::load(fd, &mut file);
-    libc::close(fd);
+    let mut file = [0u8; 65536];
+    let loaded = files::load(&mut log, &mut file);
+    drop(log);
     if !loaded.ok {
-        complain(b"shift-log: the log cannot be read to its end\n");
+        complain(
+            &mut rt.stderr(),
+            b"shift-log: the log cannot be read to its end\n",
+        );
         return;
     }
-    if !print(&file[..loaded.length]) {
-        complain(b"shift-log: standard output cannot be written\n");
+    if !print(&mut rt.stdout(), &file[..loaded.length]) {
+        complain(
+            &mut rt.stderr(),
+            b"shift-log: standard output cannot be written\n",
+        );
     }
 }
