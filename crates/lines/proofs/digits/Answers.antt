@@ -8,8 +8,7 @@ use lib.ListN.{length, take}
 use Rattle.refusal.specs.Room.{overlay}
 use Rattle.refusal.proofs.Room.{take-overlay, overlay-holds}
 use Rattle.lines.proofs.Decimal.{decimal_u32}
-use Rattle.lines.proofs.digits.Statement.{statement}
-use Rattle.lines.proofs.digits.Tie as tie
+use Rattle.lines.proofs.digits.Goals as goal
 
 -- a text at the start of a room, read again
 again : (text room after : List ℕ) (n : ℕ) → (n ≡ 0 + length text) × (after ≡ overlay room 0 text)
@@ -18,10 +17,8 @@ again text room after n e =
     let same : n ≡ length text = omega (arith, e.0) in
     (rw (same, e.1) (take-overlay room text), same, rw (same, e.1) (overlay-holds room text))
 
-pub digits-spec : {M : Type 1} → statement M
-digits-spec =
-    tie.close
-    (tie.spec
-    (λ c. search rules)
-    (λ c κs. omega (arith, decimal_u32 c.before.args.n (omega arith)))
-    (λ c. again _ _ _ _ c.before.put-decimal.ensures))
+pub put_decimal-count-requires : goal.put_decimal-count-requires
+put_decimal-count-requires c = omega (arith, decimal_u32 c.args.n (omega arith))
+
+pub returns : goal.returns
+returns c = again _ _ _ _ c.put_decimal-count.ensures

@@ -12,8 +12,7 @@ use Rattle.refusal.specs.declared.Refusal.{Refusal}
 use Rattle.refusal.proofs.Room.{write_then}
 use Rattle.lines.specs.Text.{refused_word, placed_field, field, refused_line}
 use Rattle.lines.proofs.Decimal.{field_byte}
-use Rattle.lines.proofs.put_refused.Statement.{statement}
-use Rattle.lines.proofs.put_refused.Tie as tie
+use Rattle.lines.proofs.put_refused.Goals as goal
 
 module _ (why : Refusal) (n : ℕ) (is : n ≡ number_of why) where
   said : is_placed n ≡ false → refused_word ++ field n 10 ≡ refused_line (paper why)
@@ -33,46 +32,17 @@ module _ (out : List ℕ) (place : ℕ) {mid after tail text : List ℕ} {at n :
       let w = write_then out mid after refused_word tail place at n fits p q in
       (omega (arith, w.0, ap length is), w.1 ∙ ap (overlay out place) is)
 
-returns : tie.Need-returns
+pub returns-then-is_placed : goal.returns-then-is_placed
+returns-then-is_placed c =
+    behind c.args.out.now c.args.place (omega arith) c.put_bytes-first.ensures c.put_placed.ensures
+    (said_at c.args.why c.number-n.result c.number-n.ensures (sym c.is_placed.ensures ∙ c.if-is_placed.true) c.place.result
+    c.place.ensures)
+
+pub put_field-requires : goal.put_field-requires
+put_field-requires c =
+    omega (arith, field_byte c.number-n.result 10 (omega arith))
+
+pub returns : goal.returns
 returns c =
-    let f = c.before.before in
-    let q = f.before in
-    let e = q.before.before in
-    let n = e.before.before in
-    let p = n.before.before.before in
-    let s = p.before.before.before.before in
-    behind s.args.out.now s.args.place (omega arith) p.put-bytes.ensures f.put-placed.ensures
-    (said_at s.args.why n.number.result n.number.ensures (sym e.before.is-placed.ensures ∙ e.if1.true) q.place.result
-    q.place.ensures)
-
-put-field-requires : tie.Need-put-field-requires
-put-field-requires c κs =
-    let n = c.before.before.before in
-    omega (arith, field_byte n.number.result 10 (omega arith))
-
-returns-2 : tie.Need-returns-2
-returns-2 c =
-    let f = c.before.before in
-    let e = f.before.before in
-    let n = e.before.before in
-    let p = n.before.before.before in
-    let s = p.before.before.before.before in
-    behind s.args.out.now s.args.place (omega arith) p.put-bytes.ensures f.put-field.ensures
-    (said s.args.why n.number.result n.number.ensures (sym e.before.is-placed.ensures ∙ e.if1.false))
-
-pub put-refused-spec : {M : Type 1} → statement M
-put-refused-spec =
-    tie.close
-    (tie.spec
-    (λ c. search rules)
-    (λ c κs. search rules)
-    (λ c κs. search rules)
-    (λ c κs. search rules)
-    (λ c κs. search rules)
-    (λ c κs. search rules)
-    (λ c. search rules)
-    returns
-    (λ c. search rules)
-    put-field-requires
-    (λ c. search rules)
-    returns-2)
+    behind c.args.out.now c.args.place (omega arith) c.put_bytes-first.ensures c.put_field.ensures
+    (said c.args.why c.number-n.result c.number-n.ensures (sym c.is_placed.ensures ∙ c.if-is_placed.false))

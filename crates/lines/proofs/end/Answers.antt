@@ -1,5 +1,4 @@
 -- `lines::end` meets its contract: the line is made in a local, and copied where it fits. Assumes nothing.
-use borrow.Author.Rules.{rules}
 use Prim.Native.Nat.{ℕ, ◌-◌, ◌≤◌}
 use native.Mathlib.Omega.{arith}
 use mathlib.Core.Path.{◌≡◌, sym, ap, ◌∙◌}
@@ -11,8 +10,7 @@ use Rattle.refusal.specs.Room.{overlay, emit}
 use Rattle.refusal.proofs.Room.{emit_refused, emit_served, take-overlay, overlay-holds}
 use Rattle.lines.specs.Text.{end_line}
 use Rattle.lines.specs.Program.{limit}
-use Rattle.lines.proofs.end.Statement.{statement}
-use Rattle.lines.proofs.end.Tie as tie
+use Rattle.lines.proofs.end.Goals as goal
 
 -- the text, read again from the local
 again : (line room text : List ℕ) (n : ℕ) → (n ≡ length line) × (text ≡ overlay room 0 line) → take n text ≡ line
@@ -28,40 +26,15 @@ fits line room text out after n e h f =
     let same = again line room text n e in
     rw (emit_served line out (omega (arith, e.0)), f ∙ ap (overlay out 0) same, e.0)
 
-module _ (c : tie.After-put-end) where
-  abbrev line : List ℕ
-  line = end_line (limit - c.before.before.before.before.args.l.left)
+pub returns-then-out-n : goal.returns-then-out-n
+returns-then-out-n c = sym (emit_refused (end_line (limit - c.args.l.left)) c.args.out.now (omega (arith, c.put_end-n.ensures.0)))
 
-  held : c.put-end.result ≤ length c.put-end.new.0
-  held = holds line _ _ _ c.put-end.ensures
+pub slice_bounds-text-end : goal.slice_bounds-text-end
+slice_bounds-text-end c = holds (end_line (limit - c.args.l.left)) _ _ _ c.put_end-n.ensures
 
-returns : tie.Need-returns
+pub slice_bounds-put_bytes-end : goal.slice_bounds-put_bytes-end
+slice_bounds-put_bytes-end c = sym (length-take-le _ _ (holds (end_line (limit - c.args.l.left)) _ _ _ c.put_end-n.ensures))
+
+pub returns : goal.returns
 returns c =
-    let p = c.before.before in
-    sym (emit_refused (line p) p.before.before.before.before.args.out.now (omega (arith, p.put-end.ensures.0)))
-
-put-bytes-requires : tie.Need-put-bytes-requires
-put-bytes-requires c κs =
-    let p = c.before.before.before.before in
-    omega (arith, length-take-le p.put-end.result p.put-end.new.0 (held p))
-
-returns-2 : tie.Need-returns-2
-returns-2 c =
-    let b = c.before.before in
-    let e = b.before.before.before in
-    let p = e.before.before in
-    fits (line p) _ p.put-end.new.0 p.before.before.before.before.args.out.now _ _ p.put-end.ensures e.if1.false b.put-bytes.ensures.1
-
-pub end-spec : {M : Type 1} → statement M
-end-spec =
-    tie.close
-    (tie.spec
-    (λ c. search rules)
-    (λ c. omega arith)
-    (λ c κs. search rules)
-    returns
-    (λ c. held c.before.before.before)
-    (λ c. sym (length-take-le _ _ (held c.before.before.before.before)))
-    put-bytes-requires
-    (λ c. search rules)
-    returns-2)
+    fits (end_line (limit - c.args.l.left)) _ c.put_end-n.new.out c.args.out.now _ _ c.put_end-n.ensures c.if-out-n.false c.put_bytes.ensures.1

@@ -8,8 +8,7 @@ use lib.ListN.{length, set, length-set, length-append}
 use Rattle.refusal.specs.Room.{overlay}
 use Rattle.refusal.proofs.Room.{set-overlay, length-overlay, write_then}
 use Rattle.lines.specs.Text.{decimal, field}
-use Rattle.lines.proofs.put_field.Statement.{statement}
-use Rattle.lines.proofs.put_field.Tie as tie
+use Rattle.lines.proofs.put_field.Goals as goal
 
 longer : (n after : ℕ) → length (field n after) ≡ length (decimal n) + 1
 unfolding field
@@ -25,20 +24,17 @@ ended room mid place n after last fits e =
     write_then room mid (set mid last after) (decimal n) (after ∷ []) place last (last + 1) (omega arith) e
     (refl, set-overlay mid last after (omega (arith, e.0)))
 
-put-decimal-requires : tie.Need-put-decimal-requires
-put-decimal-requires c κs = let a = c.before.before.args in omega (arith, longer a.n a.after)
+pub put_decimal-last-requires : goal.put_decimal-last-requires
+put_decimal-last-requires c = let a = c.args in omega (arith, longer a.n a.after)
 
-slice-write-out : tie.Need-slice-write-out
-slice-write-out c = let a = c.before.before.before.before.before.args in omega (arith, longer a.n a.after)
+pub bounds-out-last : goal.bounds-out-last
+bounds-out-last c = let a = c.args in omega (arith, longer a.n a.after)
 
-pub put-field-spec : {M : Type 1} → statement M
-put-field-spec =
-    tie.close
-    (tie.spec
-    put-decimal-requires
-    slice-write-out
-    (λ c. omega (arith, slice-write-out c))
-    (λ c. simp length-set (search rules))
-    (λ c.
-    let s = c.before.before.before.before.before in
-    ended s.args.out.now _ s.args.place s.args.n s.args.after _ s.requires c.before.before.put-decimal.ensures))
+pub overflow_add-result : goal.overflow_add-result
+overflow_add-result c = let a = c.args in omega (arith, longer a.n a.after)
+
+pub shape_of-out : goal.shape_of-out
+shape_of-out c = simp length-set (search rules)
+
+pub returns : goal.returns
+returns c = ended c.args.out.now _ c.args.place c.args.n c.args.after _ c.requires c.put_decimal-last.ensures

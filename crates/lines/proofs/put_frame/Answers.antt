@@ -1,0 +1,37 @@
+-- `lines::put_frame` meets its contract: four writes, one after the other. Assumes nothing.
+use borrow.Author.Rules.{rules}
+use native.Mathlib.Omega.{arith}
+use mathlib.Core.List.{◌++◌}
+use Rattle.refusal.proofs.Room.{write_then}
+use Rattle.lines.specs.Text.{frame_word, field, frame_line}
+use Rattle.lines.proofs.Decimal.{field_byte}
+use Rattle.lines.proofs.put_frame.Goals as goal
+
+pub put_field-second-requires : goal.put_field-second-requires
+put_field-second-requires c =
+    omega (arith, field_byte c.args.address 32 (omega arith))
+
+pub put_field-third-requires : goal.put_field-third-requires
+put_field-third-requires c =
+    omega (arith, field_byte c.args.address 32 (omega arith), field_byte c.args.command 32 (omega arith))
+
+pub put_field-requires : goal.put_field-requires
+put_field-requires c =
+    omega (
+      arith,
+      field_byte c.args.address 32 (omega arith),
+      field_byte c.args.command 32 (omega arith),
+      field_byte c.args.l 10 (omega arith),
+    )
+
+pub returns : goal.returns
+unfolding frame_line
+returns c =
+    let out = c.args.out.now in
+    let at = c.args.place in
+    let a = field c.args.address 32 in
+    let b = field c.args.command 32 in
+    let w₁ = write_then out _ _ frame_word a at _ _ (omega arith) c.put_bytes-first.ensures c.put_field-second.ensures in
+    let w₂ = write_then out _ _ (frame_word ++ a) b at _ _ (omega arith) w₁ c.put_field-third.ensures in
+    let w₃ = write_then out _ _ ((frame_word ++ a) ++ b) (field c.args.l 10) at _ _ (omega arith) w₂ c.put_field.ensures in
+    (omega (arith, w₃.0), w₃.1)
