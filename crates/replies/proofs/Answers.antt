@@ -26,10 +26,8 @@ use Rattle.sfc6.specs.Commands.{row}
 use Rattle.sfc6.specs.Requests.{request_checks, check_request}
 use Rattle.sfc6.specs.Paper.{paper_passed}
 use Rattle.sfc6.proofs.Order.{never, first_refuses, then_more}
-use Rattle.replies.specs.declared.Reply.{Reply}
-use Rattle.replies.specs.declared.Content.{Content}
 use Rattle.replies.specs.declared.Content.TheVariants as content
-use Rattle.replies.specs.Replies.{reply_to, content_of, out_of_range, bad_float}
+use Rattle.replies.specs.Replies.{reply_to, content_of}
 use Rattle.replies.specs.Reader.{code_in, bit7_in, length_in, data_in, size_of, is_size, foreign, text_in, Got, text, got_by, value_checks, read_checks, answer_to, with_bit7, read_reply}
 use Rattle.replies.proofs.Table.{content_from, tabled}
 
@@ -43,13 +41,6 @@ module _ (q : Request) (a : Answer) (payload : List ℕ) (bit7 : Bool) where
   text_read n is e f =
       let c : content_of (reply_to q (big payload)) ≡ content.Text = (tabled q (big payload)).carried ∙ ap (λ (x : Answer). content_from x (big payload)) (sym e ∙ is) in
       rw (c, is, f)
-
-  module _ {r : Reply} (is : r ≡ reply_to q (big payload)) {c : Content} (carried : c ≡ content_of r) {x : Bool} (range : x ≡ out_of_range c) where
-    pub data_12 : x ≡ true → (refused (number 12), none) ≡ of_data q a payload bit7
-    data_12 h = rw (← is, ← carried, ← range, h)
-
-    pub data_13 : x ≡ false → {y : Bool} → y ≡ bad_float c → y ≡ true → (refused (number 13), none) ≡ of_data q a payload bit7
-    data_13 within float h = rw (← is, ← carried, ← range, within, ← float, h)
 
 -- the data as they are lent
 data_lent : (body : List ℕ) → take (length body - 1 - 4) (drop 4 body) ≡ data_in body

@@ -1,13 +1,13 @@
 -- What a reply carries, where it is known not to be of one form. Assumes nothing.
 use mathlib.Core.Path.{◌≡◌, refl, subst}
-use mathlib.Core.Bool.{Bool, true, false, cond, ◌||◌}
+use mathlib.Core.Bool.{Bool, true, false, ◌||◌}
 use mathlib.Core.List.{List, [], ◌++◌, foldr}
-use Prim.Native.Nat.{ℕ, ◌+◌, min, ◌≤◌, ◌<◌}
+use Prim.Native.Nat.{ℕ, ◌+◌, min, ◌≤◌}
 use native.Mathlib.Omega.{arith}
 use lib.Dec.{T, eqb, ltb}
 use lib.ListN.{length, take}
 use lib.Seq.{take-append_seam}
-use borrow.Author.Tests.{ltb-false, lt-ltb, le-ltb}
+use borrow.Author.Tests.{ltb-false, le-ltb}
 use Rattle.refusal.specs.Room.{overlay}
 use Rattle.payload.specs.Field.{big_endian, bytes_in}
 use Rattle.payload.specs.declared.fields.Width.{Width}
@@ -16,7 +16,7 @@ use Rattle.payload.proofs.Big.{length-big_endian}
 use Rattle.replies.specs.declared.Content.{Content}
 use Rattle.replies.specs.declared.Content.TheVariants.{Nothing, Float, U16, U32, Validity, Address, Baud, Text, Error}
 use Rattle.replies.specs.Replies.{out_of_range}
-use Rattle.replies.specs.Writer.{bad_text, data_of, code_of, state_of}
+use Rattle.replies.specs.Writer.{bad_text, data_of, code_of}
 use Rattle.replies.proofs.Text.{smallest_zero}
 
 -- beside anything else a text is not looked at
@@ -35,10 +35,6 @@ pub or_false : (a b : Bool) → (a || b) ≡ false → (a ≡ false) × (b ≡ f
 or_false true b h = absurd (subst T h tt)
 or_false false b h = (refl, h)
 
--- the state with an error
-pub error_state : (c : Content) (bit7 : Bool) {high : ℕ} → high ≡ cond bit7 0x80 0 → (code : ℕ) → c ≡ Error code → code + high ≡ state_of c bit7
-error_state c bit7 is code e = rw (e, is)
-
 -- an error code in its range
 pub code_fits : (c : Content) → out_of_range c ≡ false → code_of c ≤ 127
 code_fits Nothing h = omega arith
@@ -51,13 +47,9 @@ code_fits (Baud rate) h = omega arith
 code_fits Text h = omega arith
 code_fits (Error code) h = ltb-false _ _ (or_false (eqb code 0) (ltb 127 code) h).1
 
--- whether a text is refused
-module _ (c : Content) (text : List ℕ) (is : c ≡ Text) where
-  pub text_long : 254 < length text → true ≡ bad_text c text
-  text_long h = rw is (simp (lt-ltb _ _ h))
-
-  pub text_held : {n : ℕ} → length text ≤ 254 → n ≡ foldr min 255 text → eqb n 0 ≡ bad_text c text
-  text_held h e = rw (is, e) (simp (le-ltb _ _ h) (smallest_zero text))
+-- a text that is not too long is refused where it holds a 00
+pub text_held : (c : Content) (text : List ℕ) → c ≡ Text → {n : ℕ} → length text ≤ 254 → n ≡ foldr min 255 text → eqb n 0 ≡ bad_text c text
+text_held c text is h e = rw (is, e) (simp (le-ltb _ _ h) (smallest_zero text))
 
 -- a product type has its text before the other data
 pub text_data : (c : Content) (text : List ℕ) {last : List ℕ} → c ≡ Text → last ≡ data_of c [] → text ++ last ≡ data_of c text

@@ -34,9 +34,6 @@ pub smallest_later : (l : List ℕ) (i n m : ℕ) {x : ℕ} → i < length l →
     → foldr min m (drop (i + 1) l) ≡ x
 smallest_later l i n m h e f = rw e (smaller (get_or l i 0) n (drop (i + 1) l) ∙ (rw (rest_here l i h) at f))
 
-pub smallest_found : (l : List ℕ) (i n : ℕ) {x : ℕ} → length l ≤ i → foldr min n (drop i l) ≡ x → n ≡ x
-smallest_found l i n h f = rw (rest_end l i h) at f
-
 min_zero : (a b : ℕ) → eqb (min a b) 0 ≡ (eqb a 0 || eqb b 0)
 min_zero a b = go (eqb a 0) (eqb b 0) refl refl
   where

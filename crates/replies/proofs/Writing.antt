@@ -2,8 +2,7 @@
 use mathlib.Core.Path.{◌≡◌, refl, sym, ap, ◌∙◌}
 use mathlib.Core.Bool.{Bool, true, false, cond, not}
 use mathlib.Core.List.{List, [], ◌∷◌, ◌++◌}
-use Prim.Native.Nat.{ℕ, ◌+◌, ◌≤◌}
-use native.Mathlib.Omega.{arith}
+use Prim.Native.Nat.{ℕ, ◌+◌}
 use lib.ListN.{length, length-append}
 use borrow.Author.Tests.{eq-eqb, ne_eqb}
 use Rattle.refusal.specs.declared.Refusal.{Refusal}
@@ -26,13 +25,7 @@ use Rattle.replies.specs.declared.Taken.TheVariants as taken
 use Rattle.replies.specs.Replies.{suits, content_of, out_of_range, bad_float}
 use Rattle.replies.specs.Writer.{bad_text, data_of, state_of, body_of, frame_for, write_checks, frame_to_write, write_reply}
 use Rattle.replies.specs.Paper.{paper_taken}
-use Rattle.replies.proofs.Accepted.{data_short}
 use Rattle.replies.proofs.Taking.{Take}
-
--- the parts of data that are not refused have at most 255 bytes together
-pub parts_short : (c : Content) (text : List ℕ) → bad_text c text ≡ false → (first last : List ℕ) → first ++ last ≡ data_of c text
-    → length first + length last ≤ 255
-parts_short c text h first last e = omega (arith, length-append first last, ap length e, data_short c text h)
 
 module _ (address command : ℕ) (room : List ℕ) where
   pub parts-written : (state : ℕ) (text last : List ℕ) (size n : ℕ) {a : Answered ℕ} {w : List ℕ} → size ≡ length text + length last → a ≡ written_of n

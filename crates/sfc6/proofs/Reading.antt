@@ -1,5 +1,5 @@
 -- Reading a request: each answer of the definitions, from the tests that lead to it. Assumes nothing.
-use mathlib.Core.Path.{◌≡◌, refl, sym, ap, subst, ◌∙◌}
+use mathlib.Core.Path.{◌≡◌, refl, sym, ap, ◌∙◌}
 use mathlib.Core.Bool.{Bool, true, false, cond, ◌&&◌, true≢false}
 use mathlib.Core.List.{List, [], ◌∷◌}
 use mathlib.Core.Option.{none, some}
@@ -20,8 +20,6 @@ use Rattle.shdlc.specs.Paper.{paper_checked}
 use Rattle.shdlc.proofs.Body.{passes}
 use Rattle.payload.specs.Field.{big}
 use Rattle.sfc6.specs.declared.Request.{Request}
-use Rattle.sfc6.specs.declared.Subcommand.{Subcommand}
-use Rattle.sfc6.specs.declared.Subcommand.TheVariants as sub
 use Rattle.sfc6.specs.declared.Value.{Value}
 use Rattle.sfc6.specs.declared.Value.TheVariants.{Nothing, Float, U32, Address, Baud}
 use Rattle.sfc6.specs.declared.Row.{Row}
@@ -85,20 +83,6 @@ module _ (r : Row) (payload : List ℕ) (whole : length payload ≡ length (data
       let l = value_ends in
       let d = length-drop place payload in
       (omega arith, ap length (take_all (length payload - place) (drop place payload) (omega arith)) ∙ omega arith)
-
--- the first data byte against the subcommand
-pub starts_empty : (s : ℕ) (payload : List ℕ) → length payload ≡ 0 → false ≡ starts_with (sub.Byte s) payload
-unfolding starts_with
-starts_empty s [] h = refl
-starts_empty s (b ∷ payload) h = absurd (omega arith)
-
-pub starts_byte : (s : ℕ) (payload : List ℕ) → (length payload ≡ 0 → ⊥) → eqb (get_or payload 0 0) s ≡ starts_with (sub.Byte s) payload
-unfolding starts_with
-starts_byte s [] h = absurd (h refl)
-starts_byte s (b ∷ payload) h = refl
-
-pub starts_known : (payload : List ℕ) (t : Bool) {s known : Subcommand} → s ≡ known → t ≡ starts_with known payload → t ≡ starts_with s payload
-starts_known payload t e h = subst (λ (x : Subcommand). t ≡ starts_with x payload) (sym e) h
 
 -- a row against a command and its data
 abbrev pub Suits : Bool → ℕ → List ℕ → Row → Bool

@@ -5,12 +5,12 @@ use mathlib.Core.List.{List, [], ◌++◌, append-nil}
 use Prim.Native.Nat.{ℕ, ◌-◌, ◌^◌, ◌≤◌, ◌<◌, min}
 use native.Mathlib.Omega.{arith}
 use borrow.Author.Tests.{ltb-true, ltb-false, ne_eqb}
-use lib.Dec.{ltb, eqb}
+use lib.Dec.{ltb}
 use lib.Ieee.{binary32, to_bits, of_bits}
 use lib.ListN.{length, take, drop, length-drop, drop_of_length-le}
 use lib.Seq.{take_all, take-length, drop-length}
 use Rattle.refusal.specs.declared.Refusal.{Refusal}
-use Rattle.refusal.specs.declared.Refusal.TheVariants.{OutOfRange, BadFloat, AddressBroadcast}
+use Rattle.refusal.specs.declared.Refusal.TheVariants.{BadFloat}
 use Rattle.refusal.specs.Refusals.{Answered, number, served, refused, paper}
 use Rattle.refusal.specs.Room.{overlay, emit}
 use Rattle.refusal.proofs.Room.{take-overlay, emit_served, emit_refused}
@@ -21,12 +21,12 @@ use Rattle.shdlc.specs.Paper.{written_of}
 use Rattle.shdlc.proofs.Frame.{frame-length}
 use Rattle.sfc6.specs.declared.Request.{Request}
 use Rattle.sfc6.specs.declared.Request.TheVariants.{ProductType}
-use Rattle.sfc6.specs.Commands.{row, request_at, finite, member, bauds}
+use Rattle.sfc6.specs.Commands.{row, request_at, finite}
 use Rattle.sfc6.specs.Requests.{request_checks, check_request, body_of, frame_to_write, write_request}
 use Rattle.sfc6.specs.Rounds.{from}
 use Rattle.sfc6.specs.Paper.{paper_passed}
 use Rattle.sfc6.proofs.Floats.{nan_or_not}
-use Rattle.sfc6.proofs.Table.{NoneBelow, request-last}
+use Rattle.sfc6.proofs.Table.{request-last}
 use Rattle.sfc6.proofs.Order.{never, first_refuses, then_more}
 
 -- what the request's own checks answer is what the writer's do
@@ -46,35 +46,17 @@ module _ (address : ℕ) where
   pub says_known : (place k n : ℕ) (c : Checked) → place ≡ k → Says (request_at k n) c → Says (request_at place n) c
   says_known place k n c e h = subst (λ (m : ℕ). Says (request_at m n) c) (sym e) h
 
-  pub says_last : (place n : ℕ) (c : Checked) → NoneBelow place 20 → Says ProductType c → Says (request_at place n) c
-  says_last place n c none h = subst (λ (q : Request). Says q c) (request-last place n none) h
+  pub says_last : (place n : ℕ) (c : Checked) → 20 ≤ place → Says ProductType c → Says (request_at place n) c
+  says_last place n c past h = subst (λ (q : Request). Says q c) (request-last place n past) h
 
-module _ {A : Type 0} (a : A) (n : ℕ) {c : Checked} where
-  pub float_checked : n < 2 ^ 32 → c ≡ cond (finite n) Good (Refused BadFloat)
-      → paper_passed a c ≡ cond (not (finite (to_bits binary32 (of_bits binary32 n)))) (refused (number 13)) (served a)
-  float_checked h e = rw (nan_or_not n h, e) (go (finite n))
-    where
-      go : (t : Bool) → paper_passed a (cond t Good (Refused BadFloat)) ≡ cond (not t) (refused (number 13)) (served a)
-      go true = refl
-      go false = refl
-
-  pub baud_checked : c ≡ cond (member n bauds) Good (Refused OutOfRange)
-      → paper_passed a c ≡ cond (not (member n bauds)) (refused (number 12)) (served a)
-  baud_checked e = rw e (go (member n bauds))
-    where
-      go : (t : Bool) → paper_passed a (cond t Good (Refused OutOfRange)) ≡ cond (not t) (refused (number 12)) (served a)
-      go true = refl
-      go false = refl
-
-  pub address_checked : (address : ℕ) → c ≡ cond (ltb 254 n) (Refused OutOfRange) (cond (eqb address 255) (Refused AddressBroadcast) Good)
-      → paper_passed a c ≡ cond (ltb 254 n) (refused (number 12)) (cond (eqb address 255) (refused (number 10)) (served a))
-  address_checked address e = rw e (go (ltb 254 n) (eqb address 255))
-    where
-      go : (t u : Bool) → paper_passed a (cond t (Refused OutOfRange) (cond u (Refused AddressBroadcast) Good))
-          ≡ cond t (refused (number 12)) (cond u (refused (number 10)) (served a))
-      go true u = refl
-      go false true = refl
-      go false false = refl
+-- and of a float by its bits
+pub float_checked : {A : Type 0} (a : A) (n : ℕ) {c : Checked} → n < 2 ^ 32 → c ≡ cond (finite n) Good (Refused BadFloat)
+    → paper_passed a c ≡ cond (not (finite (to_bits binary32 (of_bits binary32 n)))) (refused (number 13)) (served a)
+float_checked {A} a n {c} h e = rw (nan_or_not n h, e) (go (finite n))
+  where
+    go : (t : Bool) → paper_passed a (cond t Good (Refused BadFloat)) ≡ cond (not t) (refused (number 13)) (served a)
+    go true = refl
+    go false = refl
 
 -- a frame that stands at the start of a room that holds it, one that is copied there, and one that does not fit
 module _ (body room : List ℕ) (n : ℕ) (long : n ≡ length (frame_of body)) where

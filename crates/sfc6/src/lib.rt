@@ -193,6 +193,7 @@ fn without_sub(command: u8, value: Value, answer: Answer) -> Row
 }
 
 // The table of commands.
+#[tactic(auto, unfolding(crate::specs::Commands::row))]
 pub fn row_of(request: Request) -> Row
     ensures { result ≡ row request }
 {
@@ -332,6 +333,7 @@ fn sub_size(sub: Subcommand) -> usize
     }
 }
 
+#[tactic(auto, unfolding(payload::specs::Field::big_endian))]
 fn value_size(value: Value) -> usize
     ensures { (result ≡ length (value_bytes value)) × (result ≤ 4) }
 {
@@ -345,6 +347,7 @@ fn value_size(value: Value) -> usize
 }
 
 // How many data bytes a request has.
+#[tactic(auto, unfolding(crate::specs::Requests::data_of))]
 fn data_size(row: Row) -> usize
     ensures { (result ≡ length (data_of row)) × (result ≤ 5) }
 {
@@ -457,6 +460,7 @@ fn lay_command(
 
 // A row of the table in one number: command, subcommand (0 for none), how many bytes the subcommand takes and how many the value. The
 // compiler makes a table of it, where a match that gives rows becomes a jump.
+#[tactic(auto, unfolding(crate::specs::Commands::row, shdlc::specs::Checksum::sum, payload::specs::Field::big_endian))]
 fn form_at(place: usize) -> u32
     requires { place ≤ 20 }
     ensures { (result / 0x1000000 % 256 ≡ (row (request_at place 0)).command) × (result / 0x10000 % 256 ≡ sum (sub_bytes (row (request_at place 0)).sub)) × (result / 0x100 % 256 ≡ length (sub_bytes (row (request_at place 0)).sub)) × (result % 256 ≡ length (value_bytes (row (request_at place 0)).value)) }
@@ -488,6 +492,7 @@ fn form_at(place: usize) -> u32
 }
 
 // The number of a request in the table's order, 0 to 20.
+#[tactic(auto, unfolding(crate::specs::Commands::place_of))]
 pub fn place_of(request: Request) -> usize
     ensures { (result ≡ place_of request) × (result ≤ 20) }
 {
@@ -517,6 +522,7 @@ pub fn place_of(request: Request) -> usize
 }
 
 // The number that a request carries, a float by its bits; 0 where it carries none.
+#[tactic(auto, unfolding(crate::specs::Commands::value_of, crate::specs::Commands::row))]
 pub fn value_of(request: Request) -> u32
     ensures { result ≡ value_of request }
 {
@@ -623,6 +629,7 @@ fn check_baud(rate: u32) -> Checked
 }
 
 // The refusals of the request at a place, carrying a number: 12, 13, 10. It asks the number, and makes no request of it first.
+#[tactic(auto, unfolding(crate::specs::Commands::row, crate::specs::Requests::check_request))]
 fn check_at(address: u8, place: usize, n: u32) -> Checked
     ensures { paper_passed (address, request_at place n) result ≡ check_request address (request_at place n) }
 {
@@ -749,6 +756,7 @@ pub fn poll_round(buffer: &mut [u8], start: usize, nodes: &[u8], request: Reques
 }
 
 // Whether the data start with the subcommand, where there is one.
+#[tactic(auto, unfolding(crate::specs::Reading::starts_with))]
 fn starts_with(sub: Subcommand, payload: &[u8]) -> bool
     ensures { result ≡ starts_with sub payload.now }
 {

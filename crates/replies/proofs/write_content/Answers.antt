@@ -1,14 +1,8 @@
 -- `replies::write_content` meets its contract: a product type has its text before the other data. Assumes nothing.
 use mathlib.Core.Path.{◌∙◌}
 use Rattle.replies.proofs.Carried.{text_data, no_text}
-use Rattle.replies.proofs.Writing.{parts_short, content_written}
+use Rattle.replies.proofs.Writing.{content_written}
 use Rattle.replies.proofs.write_content.Goals as goal
-
--- the parts of the data, of a text and of anything else
-pub write_parts-requires : goal.write_parts-requires
-write_parts-requires c =
-    let a = c.args in
-    parts_short a.content a.text.now c.requires.1 a.text.now _ (text_data a.content a.text.now c.in-Text.is c.put_data-end.ensures.1)
 
 pub returns-in-Text : goal.returns-in-Text
 returns-in-Text c =

@@ -1,5 +1,4 @@
 -- `replies::write_reply` meets its contract: at each return the tests that led there say which refusal it is. Assumes nothing.
-use mathlib.Core.Path.{sym, ◌∙◌}
 use Rattle.replies.proofs.Writing.{reply_refused, reply_to_all, other_kind, range_12, text_12, float_13, reply-laid}
 use Rattle.replies.proofs.write_reply.Goals as goal
 
@@ -35,10 +34,6 @@ returns-then-bad_float c =
     let a = c.args in
     float_13 a.address a.request a.reply a.text.now a.bit7 _ c.check_request.ensures c.in_default.is c.if-address-eq255.false c.take.ensures c.in-Carried.is
     c.out_of_range.ensures c.if-out_of_range.false c.bad_text.ensures c.if-bad_text.false c.bad_float.ensures c.if-bad_float.true
-
-pub write_content-requires : goal.write_content-requires
-write_content-requires c =
-    (sym c.out_of_range.ensures ∙ c.if-out_of_range.false, sym c.bad_text.ensures ∙ c.if-bad_text.false)
 
 pub returns : goal.returns
 returns c =

@@ -4,12 +4,6 @@ use Rattle.sfc6.specs.Rounds.{append_request}
 use Rattle.sfc6.proofs.Writing.{starts, appended}
 use Rattle.sfc6.proofs.append_request.Goals as goal
 
-pub slice_bounds-write_request-count : goal.slice_bounds-write_request-count
-slice_bounds-write_request-count c = (starts _ _ _ c.room_from-end.ensures).0
-
-pub slice_bounds-write_request-start : goal.slice_bounds-write_request-start
-slice_bounds-write_request-start c = (starts _ _ _ c.room_from-end.ensures).0
-
 pub returns : goal.returns
 unfolding append_request
 returns c =

@@ -1,5 +1,4 @@
 -- `sfc6::bits_of` meets its contract. Assumes nothing.
-use borrow.Author.Rules.{rules}
 use mathlib.Core.Path.{sym, ap, ◌∙◌}
 use lib.Ieee.{binary32, to_bits}
 use Rattle.sfc6.proofs.Floats.{differs, no_nan, nan_bits_lem}
@@ -10,6 +9,3 @@ returns-then-x c = sym (ap (to_bits binary32) (differs _ c.if-x.true) ∙ nan_bi
 
 pub float_to_bits-result : goal.float_to_bits-result
 float_to_bits-result c = no_nan _ c.if-x.false
-
-pub returns : goal.returns
-returns c = search rules

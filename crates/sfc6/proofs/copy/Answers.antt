@@ -12,8 +12,5 @@ loop-i-preserved c = let l = c.loop-i in (
   write_here _ _ _ _ c.loop-i-test.true (omega arith) ∙ l.invariant.2,
 )
 
-pub shape_of-out : goal.shape_of-out
-shape_of-out c = c.loop-i.invariant.1
-
 pub returns : goal.returns
 returns c = sym (write_end _ _ _ _ c.loop-i-test.false) ∙ c.loop-i.invariant.2

@@ -1,5 +1,4 @@
 -- `sfc6::float_of` meets its contract. Assumes nothing.
-use borrow.Author.Rules.{rules}
 use mathlib.Core.Path.{sym, subst, ◌∙◌}
 use mathlib.Core.Bool.{Bool, not}
 use lib.Dec.{T}
@@ -11,6 +10,3 @@ returns-then-bits-gt2139095040 c = zero_by_zero ∙ sym (nan_above _ c.if-bits-g
 
 pub float_from_bits-result : goal.float_from_bits-result
 float_from_bits-result c = subst (λ (b : Bool). T (not b)) (sym (nan_not_above _ c.if-bits-gt2139095040.false)) tt
-
-pub returns : goal.returns
-returns c = search rules

@@ -13,6 +13,3 @@ pub returns : goal.returns
 returns c =
     let a = c.args in
     rw (no_byte a.size a.n c.requires.1 c.if-size-eq4.false c.if-size-eq1.false) (none_wrote _ _)
-
-pub returns-then-size-eq4 : goal.returns-then-size-eq4
-returns-then-size-eq4 c = rw c.if-size-eq4.true c.put_four.ensures

@@ -13,6 +13,3 @@ returns c =
 
 pub returns-then-place-gt-LAST : goal.returns-then-place-gt-LAST
 returns-then-place-gt-LAST c = no_frame _ _ _ c.if-place-gt-LAST.true _
-
-pub lay_numbered-requires : goal.lay_numbered-requires
-lay_numbered-requires c = c.if-place-gt-LAST.false
