@@ -1,9 +1,9 @@
 -- The lines of answers, each `return` of the functions that lay them. Assumes nothing.
-use Prim.Native.Nat.{ℕ, zero, suc, ◌+◌, ◌≤◌}
+use Prim.Native.Nat.{ℕ, ◌+◌}
 use native.Mathlib.Omega.{arith}
 use mathlib.Core.Path.{◌≡◌, refl, sym, ap, subst, ◌∙◌}
 use mathlib.Core.Bool.{Bool, true, false, cond}
-use mathlib.Core.List.{List, [], ◌∷◌}
+use mathlib.Core.List.{List}
 use lib.ListN.{length, get_or, take}
 use Rattle.refusal.specs.Refusals.{number, paper, served, refused}
 use Rattle.refusal.specs.declared.Refusal.{Refusal}
@@ -24,28 +24,11 @@ use Rattle.lines.specs.Private.{said_line}
 abbrev pub Laid : ℕ → List ℕ → List ℕ → ℕ → List ℕ → Type 0
 Laid r after room place text = (r ≡ place + length text) × (after ≡ overlay room place text)
 
--- past a list's end there is 0
-pub get_d_past : (l : List ℕ) (i : ℕ) → length l ≤ i → get_or l i 0 ≡ 0
-get_d_past [] i h = refl
-get_d_past (x ∷ l) zero h = absurd (omega arith)
-get_d_past (x ∷ l) (suc i) h = get_d_past l i (omega arith)
-
 -- the line of a frame, by three bytes of its body
 pub body-laid : (body room : List ℕ) (place : ℕ) {a b c n : ℕ} {after : List ℕ} → a ≡ get_or body 0 0 → b ≡ get_or body 1 0 → c ≡ get_or body 2 0
     → Laid n after room place (frame_line a b c) → Laid n after room place (line_of (served body))
 unfolding line_of
 body-laid body room place e f g h = rw (← e, ← f, ← g) h
-
-take_whole : (n : ℕ) (l : List ℕ) → length l ≤ n → take n l ≡ l
-take_whole zero [] h = refl
-take_whole zero (x ∷ l) h = absurd (omega arith)
-take_whole (suc n) [] h = refl
-take_whole (suc n) (x ∷ l) h = ap (λ (m : List ℕ). x ∷ m) (take_whole n l (omega arith))
-
-pub whole-laid : (n : ℕ) (frame room : List ℕ) (place : ℕ) {r : ℕ} {after : List ℕ} → length frame ≤ n → Laid r after room place (line_of (served frame))
-    → Laid r after room place (line_of (served (take n frame)))
-whole-laid n frame room place {r} {after} h e =
-    subst (λ (body : List ℕ). Laid r after room place (line_of (served body))) (sym (take_whole n frame h)) e
 
 -- the three arms of `put_answer`
 module _ (given : Answer) (frame room : List ℕ) (place : ℕ) where

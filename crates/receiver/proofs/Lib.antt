@@ -1,5 +1,4 @@
 -- The laws of the definitions in specs/, and demand 3.
-pub mod Bytes
 pub mod Modes
 pub mod Turns
 pub mod Cases

@@ -22,15 +22,6 @@ mode_back BareControl = refl
 pub pending_by_number : (mode : Mode) (m n : ℕ) {t : Bool} → m ≡ number_of_mode mode → pending_in (mode_of m) n ≡ t → pending_in mode n ≡ t
 pending_by_number mode m n e p = sym (ap (λ (x : Mode). pending_in x n) (ap mode_of e ∙ mode_back mode)) ∙ p
 
--- a number that is none of the first two modes' is that of a stretch with a byte
-pub pending-other : (m n : ℕ) → (m ≡ 0 → ⊥) → (m ≡ 1 → ⊥) → pending_in (mode_of m) n ≡ true
-pending-other m n o p = rw (ne_eqb m 0 o, ne_eqb m 1 p) (go (eqb m 2) (eqb m 3))
-  where
-    go : (t u : Bool) → pending_in (cond t Escaped (cond u BadEscape BareControl)) n ≡ true
-    go true u = refl
-    go false true = refl
-    go false false = refl
-
 -- what a byte does in a mode that is known by its number
 module _ (m b : ℕ) where
   pub act_escape : m ≡ 1 → b ≡ 0x7D → act_of (mode_of m) b ≡ Become Escaped

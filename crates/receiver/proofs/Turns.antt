@@ -17,7 +17,6 @@ use Rattle.receiver.specs.declared.Mode.TheVariants.{Plain, Escaped, BareControl
 use Rattle.receiver.specs.Record.{Record, mode_of, Act, Store, Become, Discard, limited, act_of, pushed, acted, opened, pending, next_byte}
 use Rattle.receiver.specs.declared.Scanned.{Scanned}
 use Rattle.receiver.specs.Calls.{Scan, scanned_as, scan_from}
-use Rattle.receiver.proofs.Bytes.{special}
 use Rattle.receiver.proofs.Modes.{act_noise}
 
 -- in a stretch without a fault, n bytes held
@@ -110,6 +109,10 @@ scan_end n r = refl
 pub scan_done : (whole : Scan) (r : Record) (piece : List ℕ) (i : ℕ) → length piece ≤ i
     → whole ≡ scan_from i r (drop i piece) → whole ≡ record { before = r; taken = i; closed = false }
 scan_done whole r piece i h e = e ∙ ap (scan_from i r) (rest_end piece i h) ∙ scan_end i r
+
+-- a byte that may not stand by itself in a stretch
+abbrev special : ℕ → Bool
+special b = eqb b 0x7E || (eqb b 0x7D || is_control b)
 
 -- a run of bytes that a stretch stores
 pub run_none : (store : List ℕ) (len : ℕ) (piece : List ℕ) → Runs store len piece store 0

@@ -1,5 +1,4 @@
 -- `lines::in_range` meets its contract: each arm by what `receiver::noise` says. Assumes nothing.
-use borrow.Author.Rules.{rules}
 use Rattle.lines.proofs.Lines.{in_range_told, in_range_refused}
 use Rattle.lines.proofs.in_range.Goals as goal
 

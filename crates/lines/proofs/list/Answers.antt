@@ -1,7 +1,7 @@
 -- `lines::list` meets its contract: each turn of the loop by what `feed` and `put_answer` ensure. Assumes nothing.
 use native.Mathlib.Omega.{arith}
-use Prim.Native.Nat.{◌+◌, ◌-◌, ◌≤◌}
-use mathlib.Core.Path.{◌≡◌, refl, ◌∙◌}
+use Prim.Native.Nat.{◌-◌, ◌≤◌}
+use mathlib.Core.Path.{refl, ◌∙◌}
 use lib.ListN.{length, take, drop, length-take, length-drop}
 use Rattle.receiver.specs.Record.{held}
 use Rattle.receiver.proofs.Cases.{range_size, taken_within}

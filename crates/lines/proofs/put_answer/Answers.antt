@@ -1,5 +1,4 @@
 -- `lines::put_answer` meets its contract: each arm by the answer that it is told. Assumes nothing.
-use borrow.Author.Rules.{rules}
 use Rattle.lines.proofs.Lines.{said_nothing, said-frame, said_refused}
 use Rattle.lines.proofs.put_answer.Goals as goal
 

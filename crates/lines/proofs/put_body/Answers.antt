@@ -1,5 +1,4 @@
 -- `lines::put_body` meets its contract. Assumes nothing.
-use borrow.Author.Rules.{rules}
 use Rattle.lines.proofs.Lines.{body-laid}
 use Rattle.lines.proofs.put_body.Goals as goal
 

@@ -1,10 +1,8 @@
 -- `lines::put_bytes` meets its contract. The invariant: the bytes that are left, written from here on, make the whole. Assumes nothing.
-use borrow.Author.Rules.{rules}
-use mathlib.Core.Path.{◌≡◌, sym, ◌∙◌}
-use Prim.Native.Nat.{◌+◌, ◌-◌, ◌≤◌, ◌<◌}
+use mathlib.Core.Path.{sym, ◌∙◌}
+use Prim.Native.Nat.{◌<◌}
 use native.Mathlib.Omega.{arith}
-use lib.ListN.{length, drop, length-set}
-use Rattle.refusal.specs.Room.{overlay}
+use lib.ListN.{length, length-set}
 use Rattle.refusal.proofs.Room.{write_here, write_end}
 use Rattle.lines.proofs.put_bytes.Goals as goal
 

@@ -1,5 +1,4 @@
 -- `lines::put_end` meets its contract. Assumes nothing.
-use borrow.Author.Rules.{rules}
 use native.Mathlib.Omega.{arith}
 use Rattle.refusal.proofs.Room.{write_then}
 use Rattle.lines.specs.Text.{end_word, field, end_line}

@@ -1,5 +1,4 @@
 -- `lines::put_frame` meets its contract: four writes, one after the other. Assumes nothing.
-use borrow.Author.Rules.{rules}
 use native.Mathlib.Omega.{arith}
 use mathlib.Core.List.{◌++◌}
 use Rattle.refusal.proofs.Room.{write_then}

@@ -1,5 +1,4 @@
 -- `lines::put_placed` meets its contract: three writes, one after the other. Assumes nothing.
-use borrow.Author.Rules.{rules}
 use native.Mathlib.Omega.{arith}
 use mathlib.Core.List.{◌++◌}
 use Rattle.refusal.proofs.Room.{write_then}
