@@ -5,7 +5,7 @@ use mathlib.Core.Bool.{Bool, true, false, ◌&&◌}
 use mathlib.Core.List.{List, [], ◌∷◌}
 use Prim.Native.Nat.{ℕ, ◌^◌, ◌≤◌, ◌<◌}
 use native.Mathlib.Omega.{arith}
-use borrow.Author.Tests.{lt-ltb, le-ltb, eq-eqb, ltb-true, ltb-false, eqb-true}
+use borrow.Author.Tests.{lt-ltb, le-ltb, ltb-true, eqb-true}
 use lib.Dec.{ltb, eqb}
 use lib.ListN.{drop, take-append-drop}
 use Rattle.refusal.specs.declared.Refusal.{Refusal}
@@ -30,26 +30,7 @@ use Rattle.sfc6.proofs.Writing.{Says, frame_by_check, write_refused, write_laid}
 
 -- ---- the request of a number
 module _ (place n : ℕ) where
-  pub no_request : 20 < place → refused (number 11) ≡ numbered place n
-  unfolding numbered
-  no_request h = rw (lt-ltb _ _ h)
-
-  module _ (within : place ≤ 20) {wide : Bool} (is : wide ≡ (eqb place 17 && ltb 255 n)) where
-    pub request_wide : wide ≡ true → refused (number 12) ≡ numbered place n
-    unfolding numbered
-    request_wide h = rw (le-ltb _ _ within, ← is, h)
-
-    pub request-known : wide ≡ false → {q : Request} → q ≡ request_at place n → served q ≡ numbered place n
-    unfolding numbered
-    request-known h same = rw (le-ltb _ _ within, ← is, h, same)
-
-    -- an address that is not too wide is a byte
-    pub request_byte : wide ≡ false → place ≡ 17 → n < 256
-    request_byte h e =
-        let small : ltb 255 n ≡ false = let f = rw (eq-eqb place 17 e) at is in sym f ∙ h in
-        omega (arith, ltb-false 255 n small)
-
-  -- and back: why a number names no request, and which request it names
+  -- why a number names no request, and which request it names
   pub numbered_refused : (m : Numbered) → numbered place n ≡ refused m
       → ((ltb 20 place ≡ true) × (m ≡ number 11)) ⊎ ((ltb 20 place ≡ false) × (m ≡ number 12) × (place ≡ 17) × (255 < n))
   unfolding numbered

@@ -6,7 +6,7 @@ use mathlib.Core.Option.{none, some}
 use Prim.Native.Nat.{ℕ, ◌+◌, ◌-◌, ◌≤◌, ◌<◌}
 use native.Mathlib.Omega.{arith}
 use native.Mathlib.Numerals.{add-one}
-use borrow.Author.Tests.{eq-eqb, ne_eqb, eqb-true}
+use borrow.Author.Tests.{eqb-true}
 use lib.Dec.{eqb}
 use lib.ListN.{length, get_or, take, drop, length-append, length-drop, drop_of_length-le}
 use lib.Seq.{drop-cons, take_all}
@@ -29,7 +29,7 @@ use Rattle.sfc6.specs.declared.Typed.{Typed}
 use Rattle.sfc6.specs.declared.Typed.TheVariants as answered
 use Rattle.sfc6.specs.Commands.{row, table, request_at}
 use Rattle.sfc6.specs.Requests.{sub_bytes, value_bytes, data_of, check_request}
-use Rattle.sfc6.specs.Reading.{starts_with, named, fitting, first, carried, typed, and_then, read_request}
+use Rattle.sfc6.specs.Reading.{named, fitting, first, carried, typed, and_then, read_request}
 use Rattle.sfc6.specs.Paper.{paper_passed, paper_found, paper_typed}
 use Rattle.sfc6.proofs.Table.{last}
 
@@ -87,27 +87,6 @@ module _ (r : Row) (payload : List ℕ) (whole : length payload ≡ length (data
 -- a row against a command and its data
 abbrev pub Suits : Bool → ℕ → List ℕ → Row → Bool
 Suits whole command payload = cond whole (fitting command payload) (named command payload)
-
-module _ (r : Row) (command : ℕ) (payload : List ℕ) where
-  pub other_command : (whole : Bool) → (command ≡ r.command → ⊥) → false ≡ Suits whole command payload r
-  unfolding named fitting
-  other_command true h = rw (ne_eqb _ _ h)
-  other_command false h = rw (ne_eqb _ _ h)
-
-  module _ (same : command ≡ r.command) {t : Bool} (is : t ≡ starts_with r.sub payload) where
-    pub other_sub : (whole : Bool) → t ≡ false → false ≡ Suits whole command payload r
-    unfolding named fitting
-    other_sub true h = rw (eq-eqb _ _ same, ← is, h)
-    other_sub false h = rw (eq-eqb _ _ same, ← is, h)
-
-    pub suits-whole : (whole : Bool) (size : ℕ) → t ≡ true → whole ≡ true → size ≡ length (data_of r)
-        → eqb (length payload) size ≡ Suits whole command payload r
-    unfolding named fitting
-    suits-whole whole size h w e = rw (w, eq-eqb _ _ same, ← is, h, e)
-
-    pub suits_name : (whole : Bool) → t ≡ true → whole ≡ false → true ≡ Suits whole command payload r
-    unfolding named fitting
-    suits_name whole h w = rw (w, eq-eqb _ _ same, ← is, h)
 
 -- the table searched from the front
 module _ (test : Row → Bool) (i : ℕ) where

@@ -292,6 +292,7 @@ fn address_to_all(address: u8, value: Value) -> bool
 }
 
 // The refusals of what a request carries, in their order: 12, 13, 10.
+#[tactic(auto, unfolding(crate::specs::Requests::check_request))]
 fn check_value(address: u8, value: Value) -> Checked
     ensures { (request : Asked) → (row request).value ≡ value → paper_passed (address, request) result ≡ check_request address request }
 {
@@ -389,6 +390,7 @@ fn put_number(out: &mut [u8], place: usize, size: usize, n: u32) -> usize
 }
 
 // The sum of its bytes.
+#[tactic(auto, unfolding(shdlc::specs::Checksum::sum, payload::specs::Field::big_endian))]
 fn sum_of_number(size: usize, n: u32) -> u32
     requires { (size ≡ 0) ⊎ ((size ≡ 1) ⊎ (size ≡ 4)) }
     ensures { (result ≡ sum (big_endian size n)) × (result < 1024) }
@@ -669,6 +671,7 @@ fn is_wide(place: usize, n: u32) -> bool
 }
 
 // The request of its number in the table's order, 0 to 20, and of the number that it carries: 11, then 12 for an address that is no byte.
+#[tactic(auto, unfolding(crate::specs::Requests::numbered))]
 pub fn request_of(place: usize, n: u32) -> Typed
     ensures { paper_typed result ≡ numbered place n }
 {
@@ -772,6 +775,7 @@ fn starts_with(sub: Subcommand, payload: &[u8]) -> bool
 }
 
 // Whether a row has this command and subcommand and, where that is asked for, as many data bytes.
+#[tactic(auto, unfolding(crate::specs::Reading::named, crate::specs::Reading::fitting))]
 fn suits(row: Row, command: u8, payload: &[u8], whole: bool) -> bool
     ensures { result ≡ cond whole (fitting command payload.now) (named command payload.now) row }
 {
