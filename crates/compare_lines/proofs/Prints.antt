@@ -1,30 +1,22 @@
 -- The claims of specs/Claims.antt: the lines exactly where the records differ, and the parts of the text. Assumes nothing.
-use mathlib.Core.Path.{◌≡◌, refl, sym, ap, subst, ◌∙◌}
-use mathlib.Core.Logic.{◌↔◌, ◌⊎◌, inl, inr}
+use mathlib.Core.Path.{◌≡◌, refl, ap, ◌∙◌}
 use mathlib.Core.Bool.{Bool, true, false, cond}
 use mathlib.Core.List.{List, [], ◌∷◌, ◌++◌}
-use mathlib.Core.Option.{Option, none, some}
-use Prim.Native.Nat.{ℕ, zero, suc, ◌+◌, ◌-◌, ◌*◌, ◌/◌, ◌%◌, ◌≤◌, ◌<◌}
+use Prim.Native.Nat.{ℕ, zero, suc, ◌+◌, ◌-◌, ◌*◌, ◌/◌, ◌%◌, ◌≤◌}
 use native.Mathlib.Omega.{arith}
 use lib.Dec.{eqb, ltb}
-use lib.ListN.{length, take, drop, length-append}
-use lib.Seq.{take_at}
-use borrow.Author.Tests.{eq-eqb, ne_eqb, eqb-true, eqb-false, ltb-true, ltb-false}
+use lib.ListN.{length, length-append}
+use borrow.Author.Tests.{ltb-true, ltb-false}
 use Rattle.refusal.specs.Refusals.{number_in, Answered, served, refused}
 use Rattle.payload.specs.Field.{Bytes}
 use Rattle.lines.specs.Text.{digit, decimal}
 use Rattle.lines.proofs.Decimal.{decimal_digit, decimal-more, decimal_u16}
-use Rattle.wire_log.specs.Log.{LogRecord}
-use Rattle.wire_log.specs.Text.{refused_line, window, printed_on}
+use Rattle.wire_log.specs.Text.{refused_line}
 use Rattle.wire_log.proofs.Lines.{length_refused}
-use Rattle.wire_log.proofs.Printed.{parts_from, on}
-use Rattle.compare.specs.Compare.{marks_of, equal_places, marks_in}
-use Rattle.compare.specs.Claims.{at}
+use Rattle.compare.specs.Compare.{equal_places, marks_in}
 use Rattle.compare.proofs.MarkLaws.{equal_most}
 use Rattle.compare.proofs.Files.{places_within}
-use Rattle.compare.proofs.Apart.{told_apart}
-use Rattle.compare_lines.specs.Text.{differ_word, only_aWord, only_bWord, same_word, word_of, line, differences, lines_by, joined, compare_text}
-use Rattle.compare_lines.specs.Claims.{Among, Lines, Parts}
+use Rattle.compare_lines.specs.Text.{same_word, word_of, line, differences, lines_by, joined, compare_text}
 use Rattle.compare_lines.proofs.Fitting.{length-line, seven, lines_append}
 
 -- how long the text is
@@ -81,13 +73,13 @@ value_append n (x ∷ xs) ys = value_append (n * 10 + (x - 48)) xs ys
 value_within : (turns n : ℕ) → n ≤ turns → value_from 0 (decimal n) ≡ n
 unfolding value_from
 value_within zero n h = ap (value_from 0) (decimal_digit n (omega arith)) ∙ omega arith
-value_within (suc turns) n h = go (ltb n 10) refl
+value_within (suc turns) n h = go (ltb n 10) refl (value_within turns (n / 10) (omega arith))
   where
-    go : (t : Bool) → ltb n 10 ≡ t → value_from 0 (decimal n) ≡ n
-    go true e = ap (value_from 0) (decimal_digit n (ltb-true n 10 e)) ∙ omega arith
-    go false e =
+    go : (t : Bool) → ltb n 10 ≡ t → value_from 0 (decimal (n / 10)) ≡ n / 10 → value_from 0 (decimal n) ≡ n
+    go true e less = ap (value_from 0) (decimal_digit n (ltb-true n 10 e)) ∙ omega arith
+    go false e less =
         let more = ltb-false n 10 e in
         ap (value_from 0) (decimal-more n more)
         ∙ value_append 0 (decimal (n / 10)) (digit (n % 10) ∷ [])
-        ∙ ap (λ (k : ℕ). k * 10 + (digit (n % 10) - 48)) (value_within turns (n / 10) (omega arith))
+        ∙ ap (λ (k : ℕ). k * 10 + (digit (n % 10) - 48)) less
         ∙ omega arith

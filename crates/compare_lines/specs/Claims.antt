@@ -6,7 +6,7 @@ use Rattle.wire_log.specs.Log.{LogRecord}
 use Rattle.wire_log.specs.Text.{window, printed_on}
 use Rattle.compare.specs.Compare.{marks_of}
 use Rattle.compare.specs.Claims.{at}
-use Rattle.compare_lines.specs.Text.{differ_word, only_aWord, only_bWord, same_word, line, differences, compare_text}
+use Rattle.compare_lines.specs.Text.{differ_word, only_aWord, only_bWord, line, differences, compare_text}
 
 -- a line stands among lines
 unfoldable pub Among : List ℕ → List (List ℕ) → Type 0
