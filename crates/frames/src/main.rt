@@ -5,17 +5,18 @@ ghost use Rattle.std.specs.Prelude.{◌≡◌, ◌-◌, ◌≤◌, true, length}
 ghost use Rattle.receiver.specs.Record.{held, in_range};
 ghost use Rattle.frames.specs.Private.{ListsAll};
 
-use libc::{STDERR_FILENO, STDIN_FILENO, STDOUT_FILENO};
 use lines::Listing;
 use receiver::Made;
 use shdlc::{Kind, Written};
+use std::io::{Read, Write};
 
 // Writes all of a text, or stops at the first write that takes nothing; says whether all was written.
-fn write_text(fd: i32, text: &[u8]) -> bool {
+fn write_text<W: Write>(to: &mut W, text: &[u8]) -> bool {
     let mut done: usize = 0;
     while done < text.len() {
-        let rest = &text[done..];
-        let n = io::count(libc::write(fd, rest), rest);
+        let Ok(n) = to.write(&text[done..]) else {
+            return false;
+        };
         if n == 0 {
             return false;
         }
@@ -24,12 +25,12 @@ fn write_text(fd: i32, text: &[u8]) -> bool {
     true
 }
 
-fn print(text: &[u8]) -> bool {
-    if write_text(STDOUT_FILENO, text) {
+fn print(rt: &HostRuntime, text: &[u8]) -> bool {
+    if write_text(&mut rt.stdout(), text) {
         return true;
     }
     write_text(
-        STDERR_FILENO,
+        &mut rt.stderr(),
         b"frames: standard output cannot be written\n",
     );
     false
@@ -43,12 +44,12 @@ struct Room {
 }
 
 // Prints what the room holds where it may not hold another line.
-fn make_room(out: &[u8], filled: usize) -> Room
+fn make_room(rt: &HostRuntime, out: &[u8], filled: usize) -> Room
     requires { filled ≤ length out.now }
     ensures { (result.place ≤ length out.now) × (24 ≤ length out.now - filled → result.place ≡ filled) × (result.ok ≡ true → 24 ≤ length out.now → 24 ≤ length out.now - result.place) }
 {
     if out.len() - filled < 24 {
-        let ok = print(&out[..filled]);
+        let ok = print(rt, &out[..filled]);
         return Room { place: 0, ok };
     }
     Room {
@@ -66,7 +67,13 @@ struct Shown {
 }
 
 // Lists all of a piece. Where the room holds its lines, they stand in it; else the last of them do, and those before them are printed.
-fn list_piece(from: Listing, store: &mut [u8], piece: &[u8], out: &mut [u8]) -> Shown
+fn list_piece(
+    rt: &HostRuntime,
+    from: Listing,
+    store: &mut [u8],
+    piece: &[u8],
+    out: &mut [u8],
+) -> Shown
     requires { (length piece.now ≤ from.left) × (24 ≤ length out.old) × (in_range (held from.receiver store.old) ≡ true) }
     ensures { ListsAll from store.old piece.now out.old result store.new out.new }
 {
@@ -74,7 +81,7 @@ fn list_piece(from: Listing, store: &mut [u8], piece: &[u8], out: &mut [u8]) -> 
     let mut at: usize = 0;
     let mut filled: usize = 0;
     while at < piece.len() {
-        let room = make_room(out, filled);
+        let room = make_room(rt, out, filled);
         if !room.ok {
             return Shown {
                 listing: l,
@@ -106,18 +113,21 @@ fn list_piece(from: Listing, store: &mut [u8], piece: &[u8], out: &mut [u8]) -> 
 }
 
 // Reads once, at most as many bytes as are asked for, and answers how many came: 0 at the input's end.
-fn read_some(piece: &mut [u8]) -> usize
+fn read_some(rt: &HostRuntime, piece: &mut [u8]) -> usize
     ensures { result ≤ length piece.old }
 {
-    let got = libc::read(STDIN_FILENO, piece);
-    if got < 0 {
-        write_text(STDERR_FILENO, b"frames: standard input cannot be read\n");
+    let mut input = rt.stdin();
+    match input.read(piece) {
+        Ok(n) => n,
+        Err(_) => {
+            write_text(&mut rt.stderr(), b"frames: standard input cannot be read\n");
+            0
+        }
     }
-    io::count(got, piece)
 }
 
 // Before each read all lines are written: whatever the read then waits for, none is held back.
-fn main() {
+fn main(rt: HostRuntime) {
     let mut store = [0u8; 260];
     let mut piece = [0u8; 416];
     let mut out = [0u8; 880];
@@ -127,23 +137,23 @@ fn main() {
     let mut l = lines::begin(fresh);
     loop {
         let wanted = lines::wanted(l.left, 416);
-        let n = read_some(&mut piece[..wanted]);
+        let n = read_some(&rt, &mut piece[..wanted]);
         if n == 0 {
             break;
         }
-        let shown = list_piece(l, &mut store, &piece[..n], &mut out);
+        let shown = list_piece(&rt, l, &mut store, &piece[..n], &mut out);
         let next = shown.listing;
         let end = shown.filled;
         let ok = shown.ok;
         if !ok {
             return;
         }
-        if !print(&out[..end]) {
+        if !print(&rt, &out[..end]) {
             return;
         }
         l = next;
     }
     if let Written::Done(n) = lines::end(l, &mut out) {
-        print(&out[..n]);
+        print(&rt, &out[..n]);
     }
 }

@@ -2,38 +2,46 @@
 // lease that is refused the one line of its number.
 #![tactic(auto)]
 
-use libc::{STDERR_FILENO, STDOUT_FILENO};
+use std::io::Write;
 
-fn print(file: &[u8], lease: u32) -> bool {
-    let mut out = io::buffer();
+fn print<W: Write>(to: &mut W, file: &[u8], lease: u32) -> bool {
+    let mut out = [0u8; 4096];
     let n = board_lines::text(replay::replay(file, lease, 32), &mut out);
-    io::write_all(STDOUT_FILENO, &out[..n])
+    files::write_all(to, &out[..n])
 }
 
-fn complain(text: &[u8]) {
-    io::write_all(STDERR_FILENO, text);
+fn complain<W: Write>(to: &mut W, text: &[u8]) {
+    files::write_all(to, text);
 }
 
-fn main() {
-    let mut name = io::buffer();
-    let n = os::arg(1, &mut name);
-    let fd = os::open_read(&name[..n]);
-    if fd < 0 {
-        os::fail(b"replay: the log cannot be opened");
-        return;
-    }
+fn main(rt: HostRuntime) {
+    let mut name = [0u8; 4096];
+    let n = files::argument(&rt, 1, &mut name);
+    let mut log = match files::open(&rt, &name[..n]) {
+        Ok(log) => log,
+        Err(why) => {
+            files::fail(&mut rt.stderr(), b"replay: the log cannot be opened", &why);
+            return;
+        }
+    };
     // More than any log has.
-    let mut file = io::large_buffer();
-    let loaded = files::load(fd, &mut file);
-    libc::close(fd);
+    let mut file = [0u8; 65536];
+    let loaded = files::load(&mut log, &mut file);
+    drop(log);
     if !loaded.ok {
-        complain(b"replay: the log cannot be read to its end\n");
+        complain(
+            &mut rt.stderr(),
+            b"replay: the log cannot be read to its end\n",
+        );
         return;
     }
-    let mut digits = io::buffer();
-    let k = os::arg(2, &mut digits);
+    let mut digits = [0u8; 4096];
+    let k = files::argument(&rt, 2, &mut digits);
     let lease = board_lines::lease::lease(&digits[..k]);
-    if !print(&file[..loaded.length], lease) {
-        complain(b"replay: standard output cannot be written\n");
+    if !print(&mut rt.stdout(), &file[..loaded.length], lease) {
+        complain(
+            &mut rt.stderr(),
+            b"replay: standard output cannot be written\n",
+        );
     }
 }
