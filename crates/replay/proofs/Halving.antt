@@ -124,10 +124,6 @@ noted_more file place n at' places l out noted = λ j h. go j h (eqb j n) refl
         let other : j ≡ n → ⊥ = eqb-false j n e in
         subst (LeavesOut kinds file place j) (sym (get_or-set_other places n j at' 0 other)) (noted j (lt_of_ne j n h other))
 
-pub noted_all : (file : List ℕ) (place n k : ℕ) (places : List ℕ) → n ≤ k → Noted file place k places → Noted file place n places
-unfolding Noted
-noted_all file place n k places l noted = λ j h. noted j (omega (arith, h, l))
-
 pub noted-at : (file : List ℕ) (place n j : ℕ) (places : List ℕ) → Noted file place n places → j < n → LeavesOut kinds file place j (get_or places j 0)
 unfolding Noted
 noted-at file place n j places noted h = noted j h

@@ -7,9 +7,6 @@ use Rattle.replay.proofs.replay.Goals as goal
 pub returns-then-not-lease_in_range : goal.returns-then-not-lease_in_range
 returns-then-not-lease_in_range c = lease_refused _ _ _ _ _ _ _ c.lease_in_range.ensures c.if-not-lease_in_range.true c.refused_list.ensures
 
-pub replay_all-requires : goal.replay_all-requires
-replay_all-requires c = sym (ap paper_answer c.in-Number.is) ∙ c.check.ensures
-
 pub returns-in-Refused : goal.returns-in-Refused
 returns-in-Refused c =
     log_refused _ _ _ _ _ _ _ c.lease_in_range.ensures c.if-not-lease_in_range.false _

@@ -1,14 +1,7 @@
 -- `replay::run::note_answer` meets its contract. Assumes nothing.
-use native.Mathlib.Omega.{arith}
-use mathlib.Core.Path.{sym, ap}
-use lib.Seq.{length-take-le}
-use Rattle.replay.specs.Private.{frame_length}
 use Rattle.replay.proofs.Carrying.{kept-request}
 use Rattle.replay.proofs.Noting.{answer_nothing, answer_refused, answer-request, answer-reply}
 use Rattle.replay.proofs.run.note_answer.Goals as goal
-
-pub slice_bounds-body-end : goal.slice_bounds-body-end
-slice_bounds-body-end c = sym (length-take-le _ _ (omega (arith, ap frame_length c.in-Frame.is, c.requires)))
 
 pub returns-in-Nothing : goal.returns-in-Nothing
 returns-in-Nothing c = answer_nothing _ _ _ _ _ c.in-Nothing.is

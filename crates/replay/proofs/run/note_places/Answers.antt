@@ -2,17 +2,11 @@
 use mathlib.Core.Path.{refl, ◌∙◌}
 use native.Mathlib.Omega.{arith}
 use lib.ListN.{length-set}
-use Rattle.replay.proofs.Halving.{leaves_none, leaves_more, noted_none, noted_more, noted_all}
+use Rattle.replay.proofs.Halving.{leaves_none, leaves_more, noted_none, noted_more}
 use Rattle.replay.proofs.run.note_places.Goals as goal
 
 pub loop-k-init : goal.loop-k-init
 loop-k-init c = (omega arith, refl, leaves_none _ _, noted_none _ _ _)
-
-pub bounds-places-k : goal.bounds-places-k
-bounds-places-k c = omega (arith, c.loop-k-test.true, c.loop-k.invariant.1, c.requires.1)
-
-pub loop-k-smaller : goal.loop-k-smaller
-loop-k-smaller c = omega (arith, c.loop-k-test.true)
 
 pub loop-k-preserved : goal.loop-k-preserved
 loop-k-preserved c = let l = c.loop-k in (
@@ -21,9 +15,3 @@ loop-k-preserved c = let l = c.loop-k in (
   leaves_more _ _ l.k _ _ c.requires.0 l.invariant.2 c.back_over-at.ensures,
   noted_more _ _ _ _ l.places (omega (arith, c.loop-k-test.true, l.invariant.1, c.requires.1)) l.invariant.2 l.invariant.3,
 )
-
-pub shape_of-places : goal.shape_of-places
-shape_of-places c = c.loop-k.invariant.1
-
-pub returns : goal.returns
-returns c = noted_all _ _ _ _ _ c.loop-k-test.false c.loop-k.invariant.3

@@ -28,29 +28,8 @@ loop-k-preserved c =
       block_one _ _ _ _ _ _ c.args.n l.k _ c.loop-k-test.true l.invariant.0 c.requires.1 (noted-at _ _ _ _ _ l.invariant.5 less) _ _ _ _ _ _ l.invariant.7 c.replay_one-r.ensures.0,
     )
 
-pub note_places-requires : goal.note_places-requires
-note_places-requires c = (c.requires.1, c.requires.3)
-
 pub loop-k-init : goal.loop-k-init
 loop-k-init c = (omega arith, refl, refl, refl, refl, c.note_places.ensures, c.requires.0, block_none _ c.args.file.now c.args.place _ _ _ c.args.n)
-
-pub bounds-places-k : goal.bounds-places-k
-bounds-places-k c = omega (arith, c.loop-k-test.true, c.loop-k.invariant.0, c.requires.3)
-
-pub loop-k-smaller : goal.loop-k-smaller
-loop-k-smaller c = omega (arith, c.loop-k-test.true)
-
-pub shape_of-asked : goal.shape_of-asked
-shape_of-asked c = c.loop-k.invariant.1
-
-pub shape_of-answered : goal.shape_of-answered
-shape_of-answered c = c.loop-k.invariant.2
-
-pub shape_of-frame : goal.shape_of-frame
-shape_of-frame c = c.loop-k.invariant.3
-
-pub shape_of-board : goal.shape_of-board
-shape_of-board c = c.loop-k.invariant.4
 
 pub returns : goal.returns
 returns c = let l = c.loop-k in

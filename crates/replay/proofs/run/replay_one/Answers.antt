@@ -18,6 +18,3 @@ returns c =
       runs_1 _ _ _ _ _ _ _ _ _ _ _ _ _ bytes c.requires.1 c.requires.2 c.newest-f.ensures.0 (part_of c.newest-f.result.start c.newest-f.result.size (drop c.newest-f.result.start c.args.file.now)) c.replay_record.ensures.0,
       c.replay_record.ensures.1,
     )
-
-pub overflow_add-end : goal.overflow_add-end
-overflow_add-end c = omega (arith, c.newest-f.ensures.1)
