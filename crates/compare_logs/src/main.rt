@@ -3,17 +3,22 @@
 #![tactic(auto)]
 
 ghost use Rattle.std.specs.Prelude.{◌≤◌, length};
+ghost use Rattle.std.specs.Bool.{OnTrue};
+ghost use Rattle.std.specs.Io.KnownBytes.{Appends};
+ghost use Rattle.compare_lines.specs.Text.{compare_text};
 
 use files::Loaded;
-use libc::{STDERR_FILENO, STDOUT_FILENO};
+use std::io::Write;
 
 // Prints all of the text of two logs, part after part.
-fn print(a: &[u8], b: &[u8]) -> bool {
-    let mut out = io::large_buffer();
+fn print<W: Write>(to: &mut W, a: &[u8], b: &[u8]) -> bool
+    ensures { OnTrue result (Appends (W.contents to.old) (W.contents to.new) (compare_text a.now b.now)) }
+{
+    let mut out = [0u8; 65536];
     let mut from: usize = 0;
     let mut n = compare_lines::text(a, b, from, &mut out);
     while 0 < n {
-        if !io::write_all(STDOUT_FILENO, &out[..n]) {
+        if !files::write_all(to, &out[..n]) {
             return false;
         }
         from += n;
@@ -22,17 +27,17 @@ fn print(a: &[u8], b: &[u8]) -> bool {
     true
 }
 
-fn complain(text: &[u8]) {
-    io::write_all(STDERR_FILENO, text);
+fn complain<W: Write>(to: &mut W, text: &[u8]) {
+    files::write_all(to, text);
 }
 
 // Says what cannot be done with a log.
-fn complain_of(name: &[u8], text: &[u8]) -> Loaded
+fn complain_of<W: Write>(to: &mut W, name: &[u8], text: &[u8]) -> Loaded
     ensures { result.length ≤ 0 }
 {
-    complain(b"compare: ");
-    complain(name);
-    complain(text);
+    complain(to, b"compare: ");
+    complain(to, name);
+    complain(to, text);
     Loaded {
         length: 0,
         ok: false,
@@ -40,36 +45,46 @@ fn complain_of(name: &[u8], text: &[u8]) -> Loaded
 }
 
 // Reads the log that an argument names, whole.
-fn load(which: usize, file: &mut [u8]) -> Loaded
+fn load(rt: &HostRuntime, which: usize, file: &mut [u8]) -> Loaded
     ensures { result.length ≤ length file.new }
 {
-    let mut name = io::buffer();
-    let n = os::arg(which, &mut name);
-    let fd = os::open_read(&name[..n]);
-    if fd < 0 {
-        return complain_of(&name[..n], b" cannot be opened: name two logs\n");
-    }
-    let loaded = files::load(fd, file);
-    libc::close(fd);
+    let mut name = [0u8; 4096];
+    let n = files::argument(rt, which, &mut name);
+    let Ok(mut log) = files::open(rt, &name[..n]) else {
+        return complain_of(
+            &mut rt.stderr(),
+            &name[..n],
+            b" cannot be opened: name two logs\n",
+        );
+    };
+    let loaded = files::load(&mut log, file);
+    drop(log);
     if loaded.ok {
         return loaded;
     }
-    complain_of(&name[..n], b" cannot be read to its end\n")
+    complain_of(
+        &mut rt.stderr(),
+        &name[..n],
+        b" cannot be read to its end\n",
+    )
 }
 
-fn main() {
+fn main(rt: HostRuntime) {
     // More than any log has.
-    let mut first = io::large_buffer();
-    let a = load(1, &mut first);
+    let mut first = [0u8; 65536];
+    let a = load(&rt, 1, &mut first);
     if !a.ok {
         return;
     }
-    let mut second = io::large_buffer();
-    let b = load(2, &mut second);
+    let mut second = [0u8; 65536];
+    let b = load(&rt, 2, &mut second);
     if !b.ok {
         return;
     }
-    if !print(&first[..a.length], &second[..b.length]) {
-        complain(b"compare: standard output cannot be written\n");
+    if !print(&mut rt.stdout(), &first[..a.length], &second[..b.length]) {
+        complain(
+            &mut rt.stderr(),
+            b"compare: standard output cannot be written\n",
+        );
     }
 }

@@ -1,0 +1,2 @@
+-- Lemmas on a text that is printed part after part.
+mod Parts
