@@ -1,9 +1,12 @@
 // A file read whole into lent room, and what its programs write.
 #![tactic(auto)]
 
-ghost use Rattle.std.specs.Prelude.{◌≡◌, ◌≤◌, IfSome, length, take};
+ghost use Rattle.std.specs.Prelude.{◌≡◌, ◌≤◌, IfSome, IsErrAnd, length, take};
 ghost use Rattle.std.specs.Bool.{OnTrue};
 ghost use Rattle.std.specs.Io.KnownBytes.{Appends, Consumes, IsAtEnd};
+ghost use Rattle.std.specs.IoError.{raw_os_error};
+ghost use Rattle.std.specs.Str.{IsUtf8};
+ghost use Rattle.files.specs.Failing.{AppendsLine};
 
 use std::env::Env;
 use std::fmt::Write as _;
@@ -25,7 +28,9 @@ pub fn argument<E: Env>(env: &E, number: usize, room: &mut [u8]) -> usize
 const NO_TEXT: i32 = 84;
 
 // Opens the file of a name for reading. The names of files are UTF-8, so no other can be opened.
-pub fn open<F: Files>(files: &F, name: &[u8]) -> io::Result<F::File> {
+pub fn open<F: Files>(files: &F, name: &[u8]) -> io::Result<F::File>
+    ensures { ¬ (IsUtf8 name.now) → IsErrAnd result (λ e. raw_os_error e ≡ Some NO_TEXT) }
+{
     match str::from_utf8(name) {
         Ok(path) => fs::open(files, path),
         Err(_) => Err(io::Error::from_raw_os_error(NO_TEXT)),
@@ -153,8 +158,10 @@ fn before_bracket(text: &[u8]) -> usize
 }
 
 // Writes a line: what failed, a colon and the system's text of the error. An error of the system's says its number in brackets behind its
-// text, which is left out.
-pub fn fail<W: Write>(to: &mut W, what: &[u8], error: &io::Error) {
+// text, which is left out. Says whether all was written.
+pub fn fail<W: Write>(to: &mut W, what: &[u8], error: &io::Error) -> bool
+    ensures { OnTrue result (AppendsLine (W.contents to.old) (W.contents to.new) what.now) }
+{
     let mut line = Line {
         bytes: [0; 128],
         length: 0,
@@ -166,8 +173,9 @@ pub fn fail<W: Write>(to: &mut W, what: &[u8], error: &io::Error) {
         Some(_) => before_bracket(said),
         None => said.len(),
     };
-    write_all(to, what);
-    write_all(to, b": ");
-    write_all(to, &said[..end]);
-    write_all(to, b"\n");
+    let named = write_all(to, what);
+    let parted = write_all(to, b": ");
+    let told = write_all(to, &said[..end]);
+    let ended = write_all(to, b"\n");
+    named && parted && told && ended
 }

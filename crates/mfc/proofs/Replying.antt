@@ -266,3 +266,7 @@ pub read_failed : (code : ℕ) (b : Bool) {bit : ℕ} → bit ≡ cond b 1 0
     (record { refusal = 15; code = code; bit7 = bit; reply = 0; value = 0; text_start = 0; text_length = 0 })
     (reply_in (refused (15 carrying code), some b))
 read_failed code b e = rw e
+
+-- the request of the number given
+pub asked : (request n place : ℕ) (t : Typed) → paper_typed t ≡ numbered place n → place ≡ request → paper_typed t ≡ numbered request n
+asked request n place t e p = e ∙ ap (λ (k : ℕ). numbered k n) p

@@ -16,3 +16,4 @@ pub mod Windows
 pub mod Printed
 pub mod Logs
 pub mod Examples
+pub mod PartAfterPart

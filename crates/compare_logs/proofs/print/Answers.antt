@@ -3,18 +3,18 @@ use Rattle.std.specs.Io.KnownBytes.{Appends}
 use Rattle.std.proofs.KnownBytes.{Appends-nil, Appends-trans}
 use Rattle.compare_lines.specs.Text.{compare_text}
 use Rattle.compare_lines.proofs.Prints.{text_short}
-use Rattle.compare_logs.proofs.Parts.{part_is, text_so_far}
+use Rattle.wire_log.proofs.PartAfterPart.{part_is, text_so_far}
 use Rattle.compare_logs.proofs.print.Goals as goal
 
 pub loop-n-init : goal.loop-n-init
 loop-n-init g c =
     let text = compare_text c.args.a.now c.args.b.now in
-    let (long, within, kept, shown, over) = part_is text 0 _ c.text-n.ensures (omega arith) (search rules) in
+    let (long, within, kept, shown, over) = part_is text 0 _ c.text-n.ensures (omega arith) (omega arith) (search rules) in
     (long, within, kept, shown, over, text_short c.args.a.now c.args.b.now (λ i. (c.type_inv.a i).fits) (λ i. (c.type_inv.b i).fits), Appends-nil (g.W.Write.contents c.args.to.now))
 
 pub loop-n-preserved : goal.loop-n-preserved
 loop-n-preserved g c =
     let text = compare_text c.args.a.now c.args.b.now in
     let (was-long, was-within, was-kept, was-shown, was-over, short, appended) = c.loop-n.invariant in
-    let (long, within, kept, shown, over) = part_is text (c.loop-n.from + c.loop-n.n) _ c.text-n-in-loop-n.ensures was-kept was-long in
+    let (long, within, kept, shown, over) = part_is text (c.loop-n.from + c.loop-n.n) _ c.text-n-in-loop-n.ensures (omega arith) was-kept was-long in
     (long, within, kept, shown, over, short, subst (Appends _ _) (text_so_far text c.loop-n.from c.loop-n.n was-shown) (Appends-trans _ _ _ _ _ appended c.if-not-write_all.ensures))

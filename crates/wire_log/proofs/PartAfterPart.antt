@@ -1,5 +1,5 @@
--- A text that is printed part after part, each as much as fits room of 4,096 bytes.
-use Rattle.std.proofs.Common.{◌≡◌, ◌+◌, ◌≤◌, ◌++◌, ℕ, List, arith, length, take, drop, sym, ap, ◌∙◌, length-take, length-drop}
+-- A text that is printed part after part, each as much as fits the room: what a part is, and the text so far.
+use Rattle.std.proofs.Common.{◌≡◌, ◌+◌, ◌≤◌, ◌<◌, ◌++◌, ℕ, List, arith, length, take, drop, sym, ap, ◌∙◌, length-take, length-drop}
 use lib.Seq.{take-add}
 use Rattle.refusal.specs.Room.{overlay}
 use Rattle.refusal.proofs.Room.{take-overlay}
@@ -17,9 +17,9 @@ module _ (text : List ℕ) {n : ℕ} {after : List ℕ} (from : ℕ) (room : Lis
       ap (λ (k : ℕ). take k after) many ∙ ap (take (length part)) laid ∙ take-overlay room part ∙ sym (ap (λ (k : ℕ). take k (drop from text)) many ∙ take-length (length room) (drop from text))
 
   -- a part is empty only where no text is left
-  pub part_is : from ≤ length text → length room ≡ 4096
-      → (length after ≡ 4096) × (n ≤ 4096) × (from + n ≤ length text) × (take n after ≡ take n (drop from text)) × (n ≤ 0 → length text ≤ from)
-  part_is h long =
+  pub part_is : {size : ℕ} → 0 < size → from ≤ length text → length room ≡ size
+      → (length after ≡ size) × (n ≤ size) × (from + n ≤ length text) × (take n after ≡ take n (drop from text)) × (n ≤ 0 → length text ≤ from)
+  part_is some h long =
       let k = part_kept text from room e h in
       let many : n ≡ length (take (length room) (drop from text)) = ap (λ (w : ℕ × List ℕ). w.0) e in
       (omega (arith, k.1), omega (arith, k.0), k.2, shown, λ none. omega (arith, many, length-take (length room) (drop from text), length-drop from text))

@@ -1,0 +1,2 @@
+-- What the programs say of a file that they cannot open.
+pub mod Failing

@@ -1,2 +1,0 @@
--- Lemmas on a text that is printed part after part.
-mod Parts
