@@ -1,124 +1,152 @@
--- What the plan of an order does is what the order does. Assumes nothing.
-use mathlib.Core.Path.{◌≡◌, refl, sym, ◌∙◌, ap, subst}
-use Prim.Native.Nat.{ℕ, ◌<◌, ◌≤◌}
+-- A search for a place, the checks before an order, and the answers of an order and of a list. Assumes nothing.
+use mathlib.Core.Path.{◌≡◌, refl, sym, ◌∙◌, ap}
+use Prim.Native.Nat.{ℕ, suc, ◌<◌, ◌≤◌}
 use native.Mathlib.Omega.{arith}
-use mathlib.Core.Bool.{Bool, true, false}
-use mathlib.Core.List.{List, map}
-use lib.ListN.{length, set, take}
-use borrow.Author.Tests.{eq-eqb, ne_eqb}
-use Rattle.refusal.specs.Refusals.{number, paper, served, refused}
+use mathlib.Core.Bool.{Bool, true, false, cond, not}
+use mathlib.Core.List.{List, [], ◌∷◌, ◌++◌}
+use lib.ListN.{length, set, take, drop}
+use lib.Seq.{take-length}
+use lib.Dec.{eqb, ltb}
+use borrow.Author.Tests.{eq-eqb, eqb-true, lt-ltb, le-ltb, ltb-false}
+use Rattle.std.specs.Prelude.{Option, Some, None, Result, Ok, Err, position}
+use Rattle.std.specs.Option.{option_or}
+use Rattle.std.specs.List.{position_or_len}
+use Rattle.arrayvec.specs.ArrayVec.{ArrayVec, array_vec_len}
 use Rattle.refusal.specs.declared.Refusal.{Refusal}
-use Rattle.refusal.specs.declared.Refusal.TheVariants.{NoRoom, BadRecord, OutOfRange}
+use Rattle.refusal.specs.Refusals.{Numbered, number, paper, Answered, served, refused, answered_as, answered, in_order}
 use Rattle.board.specs.declared.entries.Kind.{Kind}
 use Rattle.board.specs.declared.entries.Node.{Node}
 use Rattle.board.specs.declared.entries.Entry.{Entry}
-use Rattle.board.specs.declared.survey.Target.{Target}
-use Rattle.board.specs.declared.survey.Found.{Found}
-use Rattle.board.specs.declared.orders.Order.{Order}
-use Rattle.board.specs.declared.orders.Answer.{Answer}
-use Rattle.board.specs.declared.orders.Answer.TheVariants as answer
-use Rattle.board.specs.declared.orders.Step.{Step}
-use Rattle.board.specs.declared.orders.Step.TheVariants.{Free, FreeNode}
-use Rattle.board.specs.declared.orders.Plan.{Plan}
-use Rattle.board.specs.Entries.{bus_number, entry_of, is_free, is_of, on_node, place_of}
-use Rattle.board.specs.Orders.{Outcome, order_in_range, opened, freed, tick, done, change, paper_answer}
-use Rattle.board.specs.Private.{has_numbers, found_in, on_numbers, step_of, steps, polled_in, target_of, sought_by, sought_in, left_by, Carries, Plans}
-use Rattle.board.proofs.Turns.{holds_at, holds_none}
-use Rattle.board.proofs.Runs.{polled_none, polled_all, steps_none, steps-one, steps_all}
+use Rattle.board.specs.Entries.{entry_of, is_free, is_of, place_of, holds, valid}
+use Rattle.board.specs.Orders.{Outcome, opened}
+use Rattle.board.specs.Listing.{standing_in, listed, list_answer, laid, or_as_it_was, list, fewest, laid_first}
+use Rattle.board.proofs.Turns.{holds_place}
 
--- ---- no place, one, and all
-pub left_none : (s : Step) (t : List Entry) → left_by 0 0 0 s t ≡ t
-left_none s t = steps_none 0 s (polled_in 0 t) ∙ polled_none t
+-- ---- the first place
+place-position : (f : Entry → Bool) (t : List Entry) → place_of f t ≡ position_or_len f t
+unfolding place_of
+place-position f [] = refl
+place-position f (e ∷ t) = go (f e) refl (place-position f t)
+  where
+    go : (b : Bool) → f e ≡ b → place_of f t ≡ position_or_len f t → cond {A = ℕ} b 0 (suc (place_of f t)) ≡ position_or_len f (e ∷ t)
+    go true u r = rw u
+    go false u r = rw u (omega (arith, r))
 
-left_all : (s : Step) (t : List Entry) → length t ≡ 32 → left_by 0 0 32 s t ≡ map (step_of s) t
-left_all s t g = ap (steps 0 32 s) (polled_none t) ∙ steps_all s t g
-
-left-polled : (s : Step) (t : List Entry) → length t ≡ 32 → left_by 32 0 0 s t ≡ map tick t
-left-polled s t g = steps_none 0 s (polled_in 32 t) ∙ polled_all t g
-
--- ---- plans by their fields
-abbrev Fields : Plan → Answer → ℕ → ℕ → ℕ → Type 0
-Fields p ans polled from to = (p.answer ≡ ans) × (p.polled ≡ polled) × (p.from ≡ from) × (p.to ≡ to)
-
-abbrev Bounds : Plan → ℕ → Type 0
-Bounds p n = (p.polled ≤ n) × (p.from ≤ p.to) × (p.to ≤ n)
-
-beside : (X : Type 0) (p : Plan) (n : ℕ) → X → Bounds p n → X × (p.polled ≤ n) × (p.from ≤ p.to) × (p.to ≤ n)
-beside X p n x b = (x, b.0, b.1, b.2)
-
-module _ (p : Plan) where
-  -- a refusal
-  refused_does : (r : Refusal) (t : List Entry) → Fields p (answer.Refused r) 0 0 0 → ◌≡◌ {A = Outcome} (paper_answer p.answer, left_by p.polled p.from p.to p.step t) (refused (paper r), t)
-  refused_does r t f = (λ j. (paper_answer (f.0 j), left_by (f.1 j) (f.2 j) (f.3 j) p.step t)) ∙ (λ j. (refused (paper r), left_none p.step t j))
-
-  -- a plan that is carried out
-  done_does : (polled from to : ℕ) (t : List Entry) {after : List Entry} → Fields p answer.Done polled from to → left_by polled from to p.step t ≡ after
-      → ◌≡◌ {A = Outcome} (paper_answer p.answer, left_by p.polled p.from p.to p.step t) (served tt, after)
-  done_does polled from to t f e = (λ j. (paper_answer (f.0 j), left_by (f.1 j) (f.2 j) (f.3 j) p.step t)) ∙ (λ j. (served tt, e j))
-
-  within : (ans : Answer) (n polled from to : ℕ) → Fields p ans polled from to → polled ≤ n → from ≤ to → to ≤ n → Bounds p n
-  within ans n polled from to f a b c = (omega (arith, f.1, a), omega (arith, f.2, f.3, b), omega (arith, f.3, c))
+pub position_is : (f : Entry → Bool) (t : List Entry) → position f t ≡ cond (holds f t) (Some (place_of f t)) None
+position_is f t = rw (← place-position f t, ← holds_place f t)
 
 -- ---- opening: the entry stands there, it takes the first free place, or there is none
-module _ (node : Node) (kind : Kind) (lease : ℕ) (t : List Entry) where
-  pub opened_there : place_of (is_of node kind) t < length t → opened node kind lease t ≡ (served tt, set t (place_of (is_of node kind) t) (entry_of node kind lease))
+module _ (node : Node) (kind : Kind) (lease : ℕ) (t : List Entry) {o p r : Option ℕ} (u : o ≡ position (is_of node kind) t) (v : p ≡ position is_free t) (w : r ≡ option_or o p) where
+  abbrev its : Entry → Bool
+  its = is_of node kind
+
+  abbrev new : Entry
+  new = entry_of node kind lease
+
+  places : r ≡ option_or (cond (holds its t) (Some (place_of its t)) None) (cond (holds is_free t) (Some (place_of is_free t)) None)
+  places = w ∙ (λ j. option_or ((u ∙ position_is its t) j) ((v ∙ position_is is_free t) j))
+
+  pub opened_at : {i : ℕ} → r ≡ Some i → opened node kind lease t ≡ (served tt, set t i new)
   unfolding opened
-  opened_there l = rw (holds_at (is_of node kind) t (length t) _ refl refl l)
+  opened_at {i} e = go (holds its t) (holds is_free t) (sym e ∙ places)
+    where
+      go : (b c : Bool) → Some i ≡ option_or (cond b (Some (place_of its t)) None) (cond c (Some (place_of is_free t)) None)
+          → cond {A = Outcome} b (served tt, set t (place_of its t) new) (cond c (served tt, set t (place_of is_free t) new) (refused (number 19), t)) ≡ (served tt, set t i new)
+      go true c h = let s : i ≡ place_of its t = cc in rw s
+      go false true h = let s : i ≡ place_of is_free t = cc in rw s
+      go false false h = absurd (cc)
 
-  pub opened_placed : length t ≤ place_of (is_of node kind) t → place_of is_free t < length t → opened node kind lease t ≡ (served tt, set t (place_of is_free t) (entry_of node kind lease))
+  pub opened_full : r ≡ None → opened node kind lease t ≡ (refused (number 19), t)
   unfolding opened
-  opened_placed m l = rw (holds_none (is_of node kind) t (length t) _ refl refl m, holds_at is_free t (length t) _ refl refl l)
+  opened_full e = go (holds its t) (holds is_free t) (sym e ∙ places)
+    where
+      go : (b c : Bool) → None ≡ option_or (cond b (Some (place_of its t)) None) (cond c (Some (place_of is_free t)) None)
+          → cond {A = Outcome} b (served tt, set t (place_of its t) new) (cond c (served tt, set t (place_of is_free t) new) (refused (number 19), t)) ≡ (refused (number 19), t)
+      go true c h = absurd (cc)
+      go false true h = absurd (cc)
+      go false false h = refl
 
-  pub opened_full : length t ≤ place_of (is_of node kind) t → length t ≤ place_of is_free t → opened node kind lease t ≡ (refused (number 19), t)
-  unfolding opened
-  opened_full m l = rw (holds_none (is_of node kind) t (length t) _ refl refl m, holds_none is_free t (length t) _ refl refl l)
+pub ruleset opening = (opened_at, opened_full)
 
-pub ruleset opening = (polled_none, steps_none, steps-one, opened_there, opened_placed, opened_full)
+-- ---- the checks before an order and a list
+abbrev pub checks : List Entry → List (Bool × Numbered)
+checks t = (not (eqb (length t) 32), number 1) ∷ (not (valid t), number 2) ∷ []
 
--- ---- the other orders
-module _ (Known : List Entry → Type 0) (p : Plan) where
-  pub all_stepped : (s : Step) (g : Entry → Entry) → ((e : Entry) → step_of s e ≡ g e) → Fields p answer.Done 0 0 32 × (p.step ≡ s) → Carries (λ t. (served tt, map g t)) Known p
-  all_stepped s g h r = beside _ p 32 (λ t l k. done_does p 0 0 32 t r.0 (ap (λ (x : Step). left_by 0 0 32 x t) r.1 ∙ left_all s t l ∙ ap (λ (w : Entry → Entry). map w t) (λ j e. h e j))) (within p _ 32 0 0 32 r.0 (omega arith) (omega arith) (omega arith))
+module _ (t : List Entry) {r : Result (Unit {0}) Refusal} (a : answered r ≡ in_order (checks t) (tt {0})) where
+  pub checked_ok : {u : Unit {0}} → r ≡ Ok u → (length t ≡ 32) × (valid t ≡ true)
+  checked_ok {u} e = go (eqb (length t) 32) refl (valid t) refl (sym (ap answered e) ∙ a)
+    where
+      go : (b : Bool) → eqb (length t) 32 ≡ b → (c : Bool) → valid t ≡ c → served u ≡ in_order ((not b, number 1) ∷ (not c, number 2) ∷ []) (tt {0}) → (length t ≡ 32) × (valid t ≡ true)
+      go true g true h s = (eqb-true (length t) 32 g, h)
+      go true g false h s = absurd (cc)
+      go false g c h s = absurd (cc)
 
-  pub all_polled : Fields p answer.Done 32 0 0 → Carries (λ t. (served tt, map tick t)) Known p
-  all_polled r = beside _ p 32 (λ t l k. done_does p 32 0 0 t r (left-polled p.step t l)) (within p _ 32 32 0 0 r (omega arith) (omega arith) (omega arith))
+  pub checked_err : {A : Type 0} (rest : List (Bool × Numbered)) (x : A) {e : Refusal} → r ≡ Err e
+      → in_order ((not (eqb (length t) 32), number 1) ∷ (not (valid t), number 2) ∷ rest) x ≡ refused (paper e)
+  checked_err {A} rest x {e} h = go (eqb (length t) 32) (valid t) (sym (ap answered h) ∙ a)
+    where
+      go : (b c : Bool) → refused (paper e) ≡ in_order ((not b, number 1) ∷ (not c, number 2) ∷ []) (tt {0}) → in_order ((not b, number 1) ∷ (not c, number 2) ∷ rest) x ≡ refused (paper e)
+      go true true s = absurd (cc)
+      go true false s = let n : paper e ≡ number 2 = cc in rw n
+      go false c s = let n : paper e ≡ number 1 = cc in rw n
 
-  pub nothing_done : Fields p answer.Done 0 0 0 → Carries (λ t. (served tt, t)) Known p
-  nothing_done r = beside _ p 32 (λ t l k. done_does p 0 0 0 t r (left_none p.step t)) (within p _ 32 0 0 0 r (omega arith) (omega arith) (omega arith))
+-- ---- the answer of a list
+module _ (t : List Entry) (room : ℕ) {r : Result (Unit {0}) Refusal} (a : answered r ≡ in_order (checks t) (tt {0})) where
+  pub listing_bad : {e : Refusal} → r ≡ Err e → refused (paper e) ≡ list_answer t room
+  unfolding list_answer
+  listing_bad h = sym (checked_err t a ((ltb room (length (listed (standing_in t))), number 1) ∷ []) (length (listed (standing_in t))) h)
 
-pub node-freed : (node : Node) {b : ℕ} → b ≡ bus_number node.bus → (e : Entry) → step_of (FreeNode b node.address) e ≡ freed (on_node node) e
-unfolding on_numbers on_node freed
-node-freed node f e = ap (λ (b : ℕ). freed (on_numbers b node.address) e) f
+  module _ {u : Unit {0}} (h : r ≡ Ok u) {n : ℕ} (g : n ≡ length (listed (standing_in t))) where
+    all_listed : list_answer t room ≡ in_order ((ltb room n, number 1) ∷ []) n
+    unfolding list_answer
+    all_listed = let c = checked_ok t a h in rw (eq-eqb (length t) 32 c.0, c.1, g)
 
-pub target_freed : (node : Node) (kind : Kind) {k : Target} → k ≡ target_of node kind → (e : Entry) → step_of (Free k) e ≡ freed (is_of node kind) e
-target_freed node kind f e = ap (λ (k : Target). freed (has_numbers k) e) f
+    pub listing_room : room < n → refused (number 1) ≡ list_answer t room
+    listing_room l = sym (all_listed ∙ rw (lt-ltb room n l))
 
--- ---- a table of n places
-module _ (n : ℕ) (good : Bool) (f : Found) (o : Order) (p : Plan) where
-  pub plans_length : (n ≡ 32 → ⊥) → Fields p (answer.Refused NoRoom) 0 0 0 → Plans n good f o p
-  unfolding change
-  plans_length h r = beside _ p n (λ t g v k. rw (ne_eqb (length t) 32 (λ x. h (sym g ∙ x))) (refused_does p NoRoom t r)) (within p _ n 0 0 0 r (omega arith) (omega arith) (omega arith))
+    pub listing_served : n ≤ room → served n ≡ list_answer t room
+    listing_served l = sym (all_listed ∙ rw (le-ltb room n l))
 
-  module _ (h : n ≡ 32) where
-    pub plans_bad : good ≡ false → Fields p (answer.Refused BadRecord) 0 0 0 → Plans n good f o p
-    unfolding change
-    plans_bad b r = beside _ p n (λ t g v k. rw (eq-eqb (length t) 32 (g ∙ h), ← v, b) (refused_does p BadRecord t r)) (within p _ n 0 0 0 r (omega arith) (omega arith) (omega arith))
+pub ruleset listing = (listing_bad, listing_room, listing_served)
 
-    module _ (b : good ≡ true) {w : Bool} (i : w ≡ order_in_range o) where
-      pub plans_out : w ≡ false → Fields p (answer.Refused OutOfRange) 0 0 0 → Plans n good f o p
-      unfolding change
-      plans_out m r = beside _ p n (λ t g v k. rw (eq-eqb (length t) 32 (g ∙ h), ← v, b, ← i, m) (refused_does p OutOfRange t r)) (within p _ n 0 0 0 r (omega arith) (omega arith) (omega arith))
+-- ---- a list in the lent room, where what is served has room
+fewest_all : (count room : ℕ) → count ≤ room → count ≤ 32 → fewest count room ≡ count
+fewest_all count room l m = omega (arith, l, m)
 
-      pub plans_done : w ≡ true → Carries (done o) (λ t. f ≡ found_in (take (sought_in 32 o) t) (sought_by o)) p → Plans n good f o p
-      unfolding change
-      plans_done m c = (
-        λ t g v k. rw (eq-eqb (length t) 32 (g ∙ h), ← v, b, ← i, m) (c.0 t (g ∙ h) (subst (λ (x : ℕ). f ≡ found_in (take (sought_in x o) t) (sought_by o)) h k)),
-        omega (arith, c.1, h),
-        c.2,
-        omega (arith, c.3, h),
-      )
+pub laid_by : {a : Answered ℕ} (entries zs : List Entry) {xs : List Entry} → a ≡ served (length xs) → xs ≡ entries → length xs ≤ length zs → length xs ≤ 32
+    → {n : ℕ} {out : List Entry} → (n ≡ length xs) × (out ≡ laid_first (length xs) xs zs) → ◌≡◌ {A = Answered ℕ × List Entry} (served n, out) (a, or_as_it_was a entries zs)
+laid_by {a} entries zs {xs} k e l m {n} {out} (f, w) = (λ j. (served (f j), same j)) ∙ (λ j. (sym k j, or_as_it_was (sym k j) entries zs))
+  where
+    all : fewest (length xs) (length zs) ≡ length xs
+    all = fewest_all (length xs) (length zs) l m
 
--- ---- an order by its case
-pub for_order : (f : Found) (o other : Order) (p : Plan) → o ≡ other → Carries (done other) (λ t. f ≡ found_in (take (sought_in 32 other) t) (sought_by other)) p
-    → Carries (done o) (λ t. f ≡ found_in (take (sought_in 32 o) t) (sought_by o)) p
-for_order f o other p e c = subst (λ (x : Order). Carries (done x) (λ t. f ≡ found_in (take (sought_in 32 x) t) (sought_by x)) p) (sym e) c
+    same : out ≡ laid entries zs
+    same = w ∙ (λ j. take (all j) xs ++ drop (all j) zs) ∙ ap (λ (x : List Entry). x ++ drop (length xs) zs) (take-length xs) ∙ ap (λ (x : List Entry). laid x zs) e
+
+-- what is served has room
+serves_few : (t : List Entry) (room : ℕ) {n : ℕ} → list_answer t room ≡ served n → n ≤ room
+unfolding list_answer
+serves_few t room {n} k = go (eqb (length t) 32) (valid t) (ltb room (length (listed (standing_in t)))) refl k
+  where
+    go : (b c d : Bool) → ltb room (length (listed (standing_in t))) ≡ d → in_order ((not b, number 1) ∷ (not c, number 2) ∷ (d, number 1) ∷ []) (length (listed (standing_in t))) ≡ served n → n ≤ room
+    go true true false h s = let e : length (listed (standing_in t)) ≡ n = cc in let l : length (listed (standing_in t)) ≤ room = ltb-false room (length (listed (standing_in t))) h in omega (arith, e, l)
+    go true true true h s = absurd (cc)
+    go true false d h s = absurd (cc)
+    go false c d h s = absurd (cc)
+
+module _ (t : List Entry) (zs : List Entry) {r : Result (ArrayVec Entry) Refusal} (a : answered_as array_vec_len r ≡ list_answer t (length zs)) where
+  pub laid_bad : {e : Refusal} → r ≡ Err e → (refused (paper e), zs) ≡ list t zs
+  unfolding list
+  laid_bad {e} h = λ j. (k j, or_as_it_was (k j) (listed (standing_in t)) zs)
+    where
+      k : refused (paper e) ≡ list_answer t (length zs)
+      k = sym (ap (answered_as array_vec_len) h) ∙ a
+
+  pub laid_all : {v : ArrayVec Entry} → r ≡ Ok v → v.items ≡ listed (standing_in t) → {xs : List Entry} → xs ≡ v.items → length xs ≤ 32 → {n : ℕ} {out : List Entry}
+      → (n ≡ length xs) × (out ≡ laid_first (length xs) xs zs) → (served n, out) ≡ list t zs
+  unfolding list
+  laid_all {v} h e {xs} p m f =
+      let k : list_answer t (length zs) ≡ served (length xs) = sym a ∙ ap (answered_as array_vec_len) h ∙ ap (λ (x : List Entry). served (length x)) (sym p) in
+      laid_by (listed (standing_in t)) zs k (p ∙ e) (serves_few t (length zs) k) m f
+
+pub ruleset laying = (laid_bad, laid_all)

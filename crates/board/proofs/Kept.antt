@@ -5,7 +5,7 @@ use native.Mathlib.Omega.{arith}
 use mathlib.Core.Bool.{Bool, true, false, not, cond}
 use mathlib.Core.List.{List, [], ◌∷◌, map}
 use lib.Dec.{eqb}
-use lib.ListN.{length, set, get_or, length-set, length-map, get_or-map}
+use lib.ListN.{length, set, get_or, get_or-map}
 use lib.Seq.{get_or-set_other}
 use borrow.Author.Tests.{eqb-true, eqb-false}
 use Rattle.refusal.specs.Refusals.{number, served, refused, in_order}
@@ -18,24 +18,6 @@ use Rattle.board.specs.Entries.{entry_of, free, is_free, is_of, on_node, place_o
 use Rattle.board.specs.Orders.{Outcome, order_in_range, opened, freed, tick, done, or_unchanged, change}
 use Rattle.board.proofs.Tests.{true_not_false, free-not}
 use Rattle.board.proofs.Search.{at_place, before_place}
-
--- ---- as many places
-opened-length : (node : Node) (kind : Kind) (lease : ℕ) (t : List Entry) → length (opened node kind lease t).1 ≡ length t
-unfolding opened
-opened-length node kind lease t = go (holds (is_of node kind) t) (holds is_free t)
-  where
-    go : (b c : Bool) → length (cond {A = Outcome} b (served tt, set t (place_of (is_of node kind) t) (entry_of node kind lease)) (cond c (served tt, set t (place_of is_free t) (entry_of node kind lease)) (refused (number 19), t))).1 ≡ length t
-    go true c = length-set t _ _
-    go false true = length-set t _ _
-    go false false = refl
-
-done-length : (o : Order) (t : List Entry) → length (done o t).1 ≡ length t
-done-length (Open node kind lease) t = opened-length node kind lease t
-done-length (Close node kind) t = length-map t (freed (is_of node kind))
-done-length (Restart node) t = length-map t (freed (on_node node))
-done-length Poll t = length-map t tick
-done-length Unnamed t = refl
-done-length Nothing t = refl
 
 -- what holds of the table that is left by an order carried out, and of the same table, holds of what every order leaves
 left_by_lem : (P : List Entry → Type 0) (t : List Entry) (o : Order) → P (done o t).1 → P t → P (change t o).1

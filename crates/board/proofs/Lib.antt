@@ -7,12 +7,10 @@ pub mod Ranks
 pub mod Sorting
 pub mod Handover
 pub mod Worked
+pub mod Numbered
 pub mod Walk
 pub mod Runs
 pub mod Kept
 pub mod Turns
-pub mod Seen
 pub mod Carried
-pub mod Whole
-pub mod Lists
-pub mod Sought
+pub mod Seen

@@ -1,14 +1,15 @@
 -- The kinds that were seen of each node tell whether an entry stands again; what the loop over the places comes to. Assumes nothing.
 use mathlib.Core.Path.{◌≡◌, refl, sym, ◌∙◌, ap}
-use Prim.Native.Nat.{ℕ, zero, suc, ◌+◌, ◌-◌, ◌*◌, ◌<◌, ◌≤◌}
+use Prim.Native.Nat.{ℕ, zero, suc, ◌+◌, ◌*◌, ◌<◌, ◌≤◌}
 use native.Mathlib.Omega.{arith}
 use mathlib.Core.Bool.{Bool, true, false, not, cond, ◌&&◌, ◌||◌}
-use mathlib.Core.List.{List, [], ◌∷◌}
-use lib.ListN.{length, get_or, set, drop, drop_of_length-le, length-set, replicate, length-replicate, get_or-replicate}
-use lib.Seq.{get_or-set_same, get_or-set_other, drop-cons}
+use mathlib.Core.List.{List, [], ◌∷◌, ◌++◌, reverse}
+use lib.ListN.{length, get_or, set, length-set, replicate, length-replicate, get_or-replicate}
+use lib.Seq.{get_or-set_same, get_or-set_other}
 use lib.Bits.{bit_and, bit_or}
 use lib.Dec.{leb, eqb}
 use borrow.Author.Tests.{eq-eqb, ne_eqb, eqb-true, eqb-false, leb-true}
+use Rattle.std.proofs.lemmas.List.{reverse-append, reverse-reverse}
 use Rattle.board.specs.declared.entries.Entry.{Entry}
 use Rattle.board.specs.Entries.{is_free, has, is_kind, is_node, is_clear, entry_in_range, holds, again, valid}
 use Rattle.board.specs.Private.{node_place, mark}
@@ -267,18 +268,14 @@ all_told (e ∷ t) = go (eqb e.kind 0) refl (is_kind e.kind && is_node e.bus e.a
 pub marked-valid : (t : List Entry) → (marked t).0 ≡ valid t
 marked-valid t = (all_told t).0
 
--- ---- the loop, from the last of n places on
-pub marked_start : (n : ℕ) (t : List Entry) → length t ≤ n → ◌≡◌ {A = Bool × List ℕ} (true, replicate 384 0) (marked (drop n t))
+-- ---- the loop, from the last place on: those looked through come last first
+pub marked_start : ◌≡◌ {A = Bool × List ℕ} (true, replicate 384 0) (marked [])
 unfolding marked
-marked_start n t h = let z : drop n t ≡ [] = drop_of_length-le t h in rw z
+marked_start = refl
 
-pub marked_more : (t : List Entry) (i : ℕ) (d : Entry) {g : Bool} {s : List ℕ} {r : Bool × List ℕ} → 0 < i → i ≤ length t → (g, s) ≡ marked (drop i t) → r ≡ mark g s (get_or t (i - 1) d) → r ≡ marked (drop (i - 1) t)
+pub marked_more : (ts : List Entry) (e : Entry) {g : Bool} {s : List ℕ} {r : Bool × List ℕ} → (g, s) ≡ marked (reverse ts) → r ≡ mark g s e → r ≡ marked (reverse (ts ++ e ∷ []))
 unfolding marked
-marked_more t i d {g} {s} {r} l h v e =
-    let k : i - 1 < length t = omega (arith, l, h) in
-    let m : suc (i - 1) ≡ i = omega (arith, l) in
-    let n : drop (i - 1) t ≡ get_or t (i - 1) d ∷ drop i t = drop-cons t (i - 1) d k ∙ ap (λ (j : ℕ). get_or t (i - 1) d ∷ drop j t) m in
-    e ∙ (λ j. mark (v j).0 (v j).1 (get_or t (i - 1) d)) ∙ ap marked (sym n)
+marked_more ts e v w = w ∙ (λ j. mark (v j).0 (v j).1 e) ∙ ap marked (sym (reverse-append ts (e ∷ [])))
 
-pub marked-end : (t : List Entry) (i : ℕ) {g : Bool} {s : List ℕ} → i ≤ 0 → (g, s) ≡ marked (drop i t) → g ≡ valid t
-marked-end t i l v = let z : i ≡ 0 = omega (arith, l) in ap (λ (x : Bool × List ℕ). x.0) v ∙ ap (λ (j : ℕ). (marked (drop j t)).0) z ∙ marked-valid t
+pub marked-end : (t ts : List Entry) {g : Bool} {s : List ℕ} → ts ≡ reverse t → (g, s) ≡ marked (reverse ts) → g ≡ valid t
+marked-end t ts h v = ap (λ (x : Bool × List ℕ). x.0) v ∙ ap (λ (l : List Entry). (marked (reverse l)).0) h ∙ ap (λ (l : List Entry). (marked l).0) (reverse-reverse t) ∙ marked-valid t

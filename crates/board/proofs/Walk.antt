@@ -1,7 +1,6 @@
 -- The laws of a table of which the first places are taken from another. Assumes nothing.
 use mathlib.Core.Path.{◌≡◌, sym, ◌∙◌, ap}
-use Prim.Native.Nat.{ℕ, suc, ◌+◌, ◌<◌, ◌≤◌}
-use native.Mathlib.Numerals.{add-one}
+use Prim.Native.Nat.{ℕ, suc, ◌<◌, ◌≤◌}
 use native.Mathlib.Omega.{arith}
 use mathlib.Core.List.{List, ◌++◌, append-nil}
 use lib.ListN.{length, get_or, set, take, drop, drop_of_length-le}
@@ -20,12 +19,6 @@ over_step xs ys i d lx ly =
     ∙ sym (append_snoc (take i xs) (get_or xs i d) (drop (suc i) ys))
     ∙ ap (λ (l : List Entry). l ++ drop (suc i) ys) (sym (take-suc xs i d lx))
 
-pub over_more : (xs ys : List Entry) (n i : ℕ) (d : Entry) {q r : List Entry} {e : Entry} → n ≤ length xs → n ≤ length ys → i < n → q ≡ over i xs ys → r ≡ set q i e → e ≡ get_or xs i d → r ≡ over (i + 1) xs ys
-over_more xs ys n i d kx ky l v u w = u ∙ (λ j. set (v j) i (w j)) ∙ over_step xs ys i d (omega arith) (omega arith) ∙ ap (λ (m : ℕ). over m xs ys) (sym (add-one i))
-
 -- all
-pub over_all : (n i : ℕ) (xs ys : List Entry) → length xs ≡ n → length ys ≡ n → n ≤ i → over i xs ys ≡ xs
-over_all n i xs ys g h l =
-    let hx : length xs ≤ i = omega arith in
-    let hy : length ys ≤ i = omega arith in
-    rw (take_all i xs hx, drop_of_length-le ys hy, append-nil xs)
+pub over_all : (i : ℕ) (xs ys : List Entry) → length xs ≤ i → length ys ≤ i → over i xs ys ≡ xs
+over_all i xs ys g h = rw (take_all i xs g, drop_of_length-le ys h, append-nil xs)

@@ -1,5 +1,7 @@
 -- The orders by numbers, as C gives them: bus 0 is serial and 1 is I2C, kind 1 is a valve and 2 a temporary calibration.
-use Rattle.std.specs.Prelude.{ℕ, Bool, cond, ◌&&◌, ◌||◌, eqb}
+use Rattle.std.specs.Prelude.{ℕ, Bool, cond, ◌&&◌, ◌||◌, eqb, Result, Ok, Err}
+use Rattle.refusal.specs.declared.Refusal.{Refusal}
+use Rattle.refusal.specs.declared.Refusal.TheVariants.{OutOfRange}
 use Rattle.board.specs.declared.entries.Bus.{Bus}
 use Rattle.board.specs.declared.entries.Bus.TheVariants.{Serial, I2c}
 use Rattle.board.specs.declared.entries.Kind.{Kind}
@@ -18,6 +20,13 @@ bus_of n = cond (eqb n (bus_number Serial)) Serial I2c
 
 unfoldable pub kind_of : ℕ → Kind
 kind_of n = cond (eqb n (kind_number Valve)) Valve Calibration
+
+-- the code's answer to a number: the bus or kind, or 12
+unfoldable pub bus_by : ℕ → Result Bus Refusal
+bus_by n = cond (is_bus n) (Ok (bus_of n)) (Err OutOfRange)
+
+unfoldable pub kind_by : ℕ → Result Kind Refusal
+kind_by n = cond (is_kind n) (Ok (kind_of n)) (Err OutOfRange)
 
 abbrev pub node_of : ℕ → ℕ → Node
 node_of bus address = record { bus = bus_of bus; address = address }

@@ -1,13 +1,11 @@
 -- 02 (i): the orders on the board, what each answers and what table it leaves.
 use Rattle.std.specs.Prelude.{ℕ, ◌-◌, Bool, true, false, cond, not, ◌&&◌, List, [], ◌∷◌, map, leb, eqb, length, set}
-use Rattle.refusal.specs.Refusals.{number, number_in, paper, Answered, served, refused, in_order}
+use Rattle.refusal.specs.Refusals.{number, number_in, Answered, served, refused, in_order}
 use Rattle.board.specs.declared.entries.Kind.{Kind}
 use Rattle.board.specs.declared.entries.Node.{Node}
 use Rattle.board.specs.declared.entries.Entry.{Entry}
 use Rattle.board.specs.declared.orders.Order.{Order}
 use Rattle.board.specs.declared.orders.Order.TheVariants.{Open, Close, Restart, Poll, Unnamed, Nothing}
-use Rattle.board.specs.declared.orders.Answer.{Answer}
-use Rattle.board.specs.declared.orders.Answer.TheVariants as answer
 use Rattle.board.specs.Entries.{node_in_range, entry_of, free, is_free, is_of, on_node, place_of, holds, valid}
 
 -- the answer to an order, and the table after it
@@ -63,10 +61,6 @@ change t order =
     or_unchanged (in_order ((not (eqb (length t) 32), number 1) ∷ (not (valid t), number 2) ∷ (not (order_in_range order), number 12) ∷ []) (done order t)) t
 
 -- ---- the code's answers
-abbrev pub paper_answer : Answer → Answered (Unit {0})
-paper_answer answer.Done = served tt
-paper_answer (answer.Refused r) = refused (paper r)
-
 -- as C gets it: the refusal's number, 0 for none
 abbrev pub number_if : Answered (Unit {0}) → ℕ
 number_if (served u) = 0

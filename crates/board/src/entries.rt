@@ -1,15 +1,18 @@
 // A node, an entry as C lends it, and the 32 places of a table with their ranges.
-ghost use Rattle.std.specs.Prelude.{◌≡◌, ◌<◌, set, get_or};
-ghost use Rattle.board.specs.Entries.{bus_number, kind_number, free, has, is_kind, is_clear, empty};
+ghost use Rattle.std.specs.Prelude.{◌≡◌};
+ghost use Rattle.board.specs.Entries.{bus_number, kind_number, free, is_free, is_of, on_node, is_kind, is_clear, node_in_range, empty};
+ghost use Rattle.board.specs.Numbers.{bus_by, kind_by};
 
-#[derive(Clone, Copy)]
+use refusal::Refusal;
+
+#[derive(Clone, Copy, Debug, PartialEq, Eq)]
 pub enum Bus {
     Serial,
     I2c,
 }
 
 // What an entry stands for.
-#[derive(Clone, Copy)]
+#[derive(Clone, Copy, Debug, PartialEq, Eq)]
 pub enum Kind {
     // A valve that 3FEF has shut.
     Valve,
@@ -18,7 +21,7 @@ pub enum Kind {
 }
 
 // A node: serial addresses are 0 to 254, those of I2C 0 to 127.
-#[derive(Clone, Copy)]
+#[derive(Clone, Copy, Debug, PartialEq, Eq)]
 pub struct Node {
     pub bus: Bus,
     pub address: u8,
@@ -26,7 +29,7 @@ pub struct Node {
 
 // A place of the handover board's table. In a free place all numbers are 0.
 #[repr(C)]
-#[derive(Clone, Copy)]
+#[derive(Clone, Copy, Debug, Default)]
 pub struct Entry {
     // 0 for a free place, or one of MFC_ENTRY_*
     pub kind: u8,
@@ -41,107 +44,135 @@ pub struct Entry {
 }
 
 // The 32 places by value.
-#[derive(Clone, Copy)]
+#[derive(Clone, Copy, Debug)]
 pub struct Places {
     pub rows: [Entry; 32],
 }
 
 // The numbers that stand for a bus and a kind in an entry; kind 0 is a free place.
-pub(crate) const SERIAL: u8 = 0;
+const SERIAL: u8 = 0;
 
-pub(crate) const I2C: u8 = 1;
+const I2C: u8 = 1;
 
-pub(crate) const VALVE: u8 = 1;
+const VALVE: u8 = 1;
 
 const CALIBRATION: u8 = 2;
 
-pub(crate) fn bus_number(bus: Bus) -> u8
-    ensures { result ≡ bus_number bus }
-{
-    match bus {
-        Bus::Serial => SERIAL,
-        Bus::I2c => I2C,
+impl From<Bus> for u8 {
+    ghost from_gives = { λ bus n. n ≡ bus_number bus };
+
+    fn from(bus: Bus) -> u8 {
+        match bus {
+            Bus::Serial => SERIAL,
+            Bus::I2c => I2C,
+        }
     }
 }
 
-pub(crate) fn kind_number(kind: Kind) -> u8
-    ensures { result ≡ kind_number kind }
-{
-    match kind {
-        Kind::Valve => VALVE,
-        Kind::Calibration => CALIBRATION,
+// A number that stands for no bus is out of range.
+impl TryFrom<u8> for Bus {
+    type Error = Refusal;
+
+    ghost try_from_gives = { λ n r. r ≡ bus_by n };
+
+    #[tactic(auto, unfolding(crate::specs::Numbers::bus_by, crate::specs::Numbers::is_bus, crate::specs::Numbers::bus_of))]
+    fn try_from(n: u8) -> Result<Bus, Refusal> {
+        match n {
+            SERIAL => Ok(Bus::Serial),
+            I2C => Ok(Bus::I2c),
+            _ => Err(Refusal::OutOfRange),
+        }
     }
 }
 
-pub(crate) fn with(p: Places, i: usize, e: Entry) -> Places
-    requires { i < 32 }
-    ensures { result.rows ≡ set p.rows i e }
-{
-    let mut q = p;
-    q.rows[i] = e;
-    q
+impl From<Kind> for u8 {
+    ghost from_gives = { λ kind n. n ≡ kind_number kind };
+
+    fn from(kind: Kind) -> u8 {
+        match kind {
+            Kind::Valve => VALVE,
+            Kind::Calibration => CALIBRATION,
+        }
+    }
 }
 
-pub(crate) fn entry_at(p: Places, i: usize) -> Entry
-    requires { i < 32 }
-    ensures { result ≡ get_or p.rows i free }
-{
-    p.rows[i]
+// A number that stands for no kind is out of range.
+impl TryFrom<u8> for Kind {
+    type Error = Refusal;
+
+    ghost try_from_gives = { λ n r. r ≡ kind_by n };
+
+    #[tactic(auto, unfolding(crate::specs::Numbers::kind_by, crate::specs::Entries::is_kind, crate::specs::Numbers::kind_of))]
+    fn try_from(n: u8) -> Result<Kind, Refusal> {
+        match n {
+            VALVE => Ok(Kind::Valve),
+            CALIBRATION => Ok(Kind::Calibration),
+            _ => Err(Refusal::OutOfRange),
+        }
+    }
+}
+
+impl Node {
+    pub(crate) fn in_range(self) -> bool
+        ensures { result ≡ node_in_range self }
+    {
+        match self.bus {
+            Bus::Serial => self.address <= 254,
+            Bus::I2c => self.address <= 127,
+        }
+    }
+}
+
+impl Entry {
+    pub(crate) fn is_free(self) -> bool
+        ensures { result ≡ is_free self }
+    {
+        self.kind == 0
+    }
+
+    // Whether a place of kind 0 is a free one.
+    #[tactic(auto, unfolding(crate::specs::Entries::is_clear))]
+    pub(crate) fn is_clear(self) -> bool
+        ensures { result ≡ is_clear self }
+    {
+        (self.bus, self.address, self.left) == (0, 0, 0)
+    }
+
+    #[tactic(auto, unfolding(crate::specs::Numbers::kind_by))]
+    pub(crate) fn is_of_kind(self) -> bool
+        ensures { result ≡ is_kind self.kind }
+    {
+        Kind::try_from(self.kind).is_ok()
+    }
+
+    // Whether the entry is that of a node and kind.
+    #[tactic(auto, unfolding(crate::specs::Entries::has))]
+    pub(crate) fn is_of(self, node: Node, kind: Kind) -> bool
+        ensures { result ≡ is_of node kind self }
+    {
+        (self.kind, self.bus, self.address) == (u8::from(kind), u8::from(node.bus), node.address)
+    }
+
+    // Whether it is one of the node's, of whatever kind.
+    #[tactic(auto, unfolding(crate::specs::Entries::on_node))]
+    pub(crate) fn is_on(self, node: Node) -> bool
+        ensures { result ≡ on_node node self }
+    {
+        self.is_of(node, Kind::Valve) || self.is_of(node, Kind::Calibration)
+    }
 }
 
 pub fn free_place() -> Entry
     ensures { result ≡ free }
 {
-    Entry {
-        kind: 0,
-        bus: 0,
-        address: 0,
-        spare: 0,
-        left: 0,
-    }
+    Entry::default()
 }
 
 // The board at the start: 32 free places.
 pub fn no_entries() -> Places
     ensures { result.rows ≡ empty }
 {
-    let e = free_place();
-    let rows = [e; 32];
-    Places { rows: rows }
-}
-
-#[tactic(auto, unfolding(crate::specs::Entries::has))]
-pub(crate) fn has_numbers(e: Entry, kind: u8, bus: u8, address: u8) -> bool
-    ensures { result ≡ has kind bus address e }
-{
-    if e.kind != kind {
-        return false;
+    Places {
+        rows: [free_place(); 32],
     }
-    if e.bus != bus {
-        return false;
-    }
-    e.address == address
-}
-
-#[tactic(auto, unfolding(crate::specs::Entries::is_kind))]
-pub(crate) fn is_kind(n: u8) -> bool
-    ensures { result ≡ is_kind n }
-{
-    if n == VALVE {
-        return true;
-    }
-    n == CALIBRATION
-}
-
-#[tactic(auto, unfolding(crate::specs::Entries::is_clear))]
-pub(crate) fn is_clear(e: Entry) -> bool
-    ensures { result ≡ is_clear e }
-{
-    if e.bus != 0 {
-        return false;
-    }
-    if e.address != 0 {
-        return false;
-    }
-    e.left == 0
 }

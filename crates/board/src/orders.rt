@@ -1,17 +1,15 @@
 // The orders to the board: what each answers, and what it does to the places.
-ghost use Rattle.std.specs.Prelude.{◌≡◌, true, ◌&&◌, ◌≤◌, take};
-ghost use Rattle.board.specs.Entries.{node_in_range, entry_of, has};
-ghost use Rattle.board.specs.Orders.{lease_in_range, order_in_range, opened, freed, tick, done, change, paper_answer};
-ghost use Rattle.board.specs.Private.{on_numbers, step_of, steps, polled_in, target_of, sought_by, sought_in, found_in, Carries, Plans};
+ghost use Rattle.std.specs.Prelude.{◌≡◌, Bool, cond, map, position};
+ghost use Rattle.refusal.specs.Refusals.{number, refused, answered};
+ghost use Rattle.board.specs.Entries.{is_free, is_of, on_node, entry_of};
+ghost use Rattle.board.specs.Orders.{lease_in_range, order_in_range, opened, freed, tick, done, change};
 
-use crate::entries::{
-    Bus, Entry, Kind, Node, Places, bus_number, free_place, has_numbers, kind_number,
-};
-use crate::survey::{Found, Target, find, is_valid};
+use crate::entries::{Entry, Kind, Node, Places, free_place};
+use crate::table::check;
 use refusal::Refusal;
 
 // An order to the board.
-#[derive(Clone, Copy)]
+#[derive(Clone, Copy, Debug, PartialEq, Eq)]
 pub enum Order {
     // An entry is opened for a lease of 1 to 65,535 polls, or its lease renewed.
     Open(Node, Kind, u32),
@@ -26,213 +24,30 @@ pub enum Order {
     Nothing,
 }
 
-#[derive(Clone, Copy)]
-pub enum Answer {
-    Done,
-    Refused(Refusal),
-}
-
 // The answer to an order, and the places after it.
-#[derive(Clone, Copy)]
+#[derive(Clone, Copy, Debug)]
 pub struct Changed {
-    pub answer: Answer,
+    pub answer: Result<(), Refusal>,
     pub places: Places,
-}
-
-// What is done to each of a run of places, polls apart.
-#[derive(Clone, Copy)]
-pub enum Step {
-    // This entry stands there.
-    Put(Entry),
-    // An entry with these numbers is closed.
-    Free(Target),
-    // An entry of the node with this bus and address is closed, whatever its kind.
-    FreeNode(u8, u8),
-}
-
-// The answer to an order, and what it does: so many places are polled, and those from one on and before another have a step done.
-#[derive(Clone, Copy)]
-pub struct Plan {
-    pub answer: Answer,
-    pub polled: usize,
-    pub from: usize,
-    pub to: usize,
-    pub step: Step,
-}
-
-fn node_in_range(node: Node) -> bool
-    ensures { result ≡ node_in_range node }
-{
-    let on = node.bus;
-    match on {
-        Bus::Serial => node.address <= 254,
-        Bus::I2c => node.address <= 127,
-    }
 }
 
 // Whether a number of polls can be a lease.
 pub fn lease_in_range(lease: u32) -> bool
     ensures { result ≡ lease_in_range lease }
 {
-    if lease < 1 {
-        return false;
-    }
-    lease <= 65535
+    (1..=65535).contains(&lease)
 }
 
-fn open_in_range(node: Node, lease: u32) -> bool
-    ensures { result ≡ (node_in_range node && lease_in_range lease) }
-{
-    if node_in_range(node) {
-        return lease_in_range(lease);
-    }
-    false
-}
-
-fn order_in_range(o: Order) -> bool
-    ensures { result ≡ order_in_range o }
-{
-    match o {
-        Order::Open(node, _, lease) => open_in_range(node, lease),
-        Order::Close(node, _) => node_in_range(node),
-        Order::Restart(node) => node_in_range(node),
-        Order::Poll => true,
-        Order::Unnamed => false,
-        Order::Nothing => true,
-    }
-}
-
-#[tactic(auto, unfolding(crate::specs::Orders::freed))]
-fn freed_of(e: Entry, k: Target) -> Entry
-    ensures { result ≡ freed (has k.kind k.bus k.address) e }
-{
-    if has_numbers(e, k.kind, k.bus, k.address) {
-        return free_place();
-    }
-    e
-}
-
-#[tactic(auto, unfolding(crate::specs::Orders::freed, crate::specs::Private::on_numbers))]
-fn freed_on(e: Entry, bus: u8, address: u8) -> Entry
-    ensures { result ≡ freed (on_numbers bus address) e }
-{
-    if has_numbers(e, kind_number(Kind::Valve), bus, address) {
-        return free_place();
-    }
-    if has_numbers(e, kind_number(Kind::Calibration), bus, address) {
-        return free_place();
-    }
-    e
-}
-
-pub(crate) fn tick_of(e: Entry) -> Entry
-    ensures { result ≡ tick e }
-{
-    let mut left = e.left;
-    if left > 0 {
-        left -= 1;
-    }
-    Entry {
-        kind: e.kind,
-        bus: e.bus,
-        address: e.address,
-        spare: e.spare,
-        left: left,
-    }
-}
-
-pub(crate) fn stepped(e: Entry, s: Step) -> Entry
-    ensures { result ≡ step_of s e }
-{
-    match s {
-        Step::Put(new) => new,
-        Step::Free(k) => freed_of(e, k),
-        Step::FreeNode(bus, address) => freed_on(e, bus, address),
-    }
-}
-
-fn target_of(node: Node, kind: Kind) -> Target
-    ensures { result ≡ target_of node kind }
-{
-    let on = node.bus;
-    Target {
-        kind: kind_number(kind),
-        bus: bus_number(on),
-        address: node.address,
-    }
-}
-
-fn no_target() -> Target
-    ensures { (result.kind ≡ 0) × (result.bus ≡ 0) × (result.address ≡ 0) }
-{
-    Target {
-        kind: 0,
-        bus: 0,
-        address: 0,
-    }
-}
-
-// The entry that is to be opened is looked for.
-pub(crate) fn sought(o: Order) -> Target
-    ensures { result ≡ sought_by o }
-{
-    match o {
-        Order::Open(node, kind, _) => target_of(node, kind),
-        Order::Close(_, _) => no_target(),
-        Order::Restart(_) => no_target(),
-        Order::Poll => no_target(),
-        Order::Unnamed => no_target(),
-        Order::Nothing => no_target(),
-    }
-}
-
-// So many places are looked through for it.
-pub(crate) fn sought_in(n: usize, o: Order) -> usize
-    ensures { result ≡ sought_in n o }
-{
-    match o {
-        Order::Open(_, _, _) => n,
-        Order::Close(_, _) => 0,
-        Order::Restart(_) => 0,
-        Order::Poll => 0,
-        Order::Unnamed => 0,
-        Order::Nothing => 0,
-    }
-}
-
-fn refused(why: Refusal) -> Plan
-    ensures { (result.answer ≡ Answer.Refused why) × (result.polled ≡ 0) × (result.from ≡ 0) × (result.to ≡ 0) }
-{
-    Plan {
-        answer: Answer::Refused(why),
-        polled: 0,
-        from: 0,
-        to: 0,
-        step: Step::FreeNode(0, 0),
-    }
-}
-
-fn polled(n: usize) -> Plan
-    ensures { (result.answer ≡ Answer.Done) × (result.polled ≡ n) × (result.from ≡ 0) × (result.to ≡ 0) }
-{
-    Plan {
-        answer: Answer::Done,
-        polled: n,
-        from: 0,
-        to: 0,
-        step: Step::FreeNode(0, 0),
-    }
-}
-
-fn planned(from: usize, to: usize, step: Step) -> Plan
-    ensures { (result.answer ≡ Answer.Done) × (result.polled ≡ 0) × (result.from ≡ from) × (result.to ≡ to) × (result.step ≡ step) }
-{
-    Plan {
-        answer: Answer::Done,
-        polled: 0,
-        from: from,
-        to: to,
-        step: step,
+impl Order {
+    fn in_range(self) -> bool
+        ensures { result ≡ order_in_range self }
+    {
+        match self {
+            Order::Open(node, _, lease) => node.in_range() && lease_in_range(lease),
+            Order::Close(node, _) | Order::Restart(node) => node.in_range(),
+            Order::Poll | Order::Nothing => true,
+            Order::Unnamed => false,
+        }
     }
 }
 
@@ -240,107 +55,87 @@ fn planned(from: usize, to: usize, step: Step) -> Plan
 pub fn entry(node: Node, kind: Kind, lease: u16) -> Entry
     ensures { result ≡ entry_of node kind lease }
 {
-    let on = node.bus;
     Entry {
-        kind: kind_number(kind),
-        bus: bus_number(on),
+        kind: u8::from(kind),
+        bus: u8::from(node.bus),
         address: node.address,
         spare: 0,
         left: lease,
     }
 }
 
+// Where the entry of a node and kind stands.
+fn held_place(t: &[Entry], node: Node, kind: Kind) -> Option<usize>
+    ensures { result ≡ position (is_of node kind) t.now }
+{
+    t.iter().position(|e| e.is_of(node, kind))
+}
+
+// The first free place.
+fn first_free(t: &[Entry]) -> Option<usize>
+    ensures { result ≡ position is_free t.now }
+{
+    t.iter().position(|e| e.is_free())
+}
+
+// The entry stands in its place, or in the first free one.
 #[tactic(auto, using(crate::proofs::Carried::opening))]
-fn plan_open(f: Found, node: Node, kind: Kind, lease: u16) -> Plan
-    ensures { Carries (opened node kind lease) (λ t. f ≡ found_in t (target_of node kind)) result }
+fn open(t: &mut [Entry], node: Node, kind: Kind, lease: u16) -> Result<(), Refusal>
+    ensures { (answered result, t.new) ≡ opened node kind lease t.old }
 {
-    let e = entry(node, kind, lease);
-    if f.held < 32 {
-        return planned(f.held, f.held + 1, Step::Put(e));
+    match held_place(t, node, kind).or(first_free(t)) {
+        Some(i) => {
+            t[i] = entry(node, kind, lease);
+            Ok(())
+        }
+        None => Err(Refusal::BoardFull),
     }
-    if f.free < 32 {
-        return planned(f.free, f.free + 1, Step::Put(e));
-    }
-    refused(Refusal::BoardFull)
 }
 
-fn plan_restart(node: Node) -> Plan
-    ensures { Carries (done (Order.Restart node)) (λ _. Unit {0}) result }
+// A place is freed where something holds of its entry.
+#[tactic(auto, using(crate::proofs::Runs::each), unfolding(crate::specs::Orders::freed))]
+fn free_where<F: Fn(Entry) -> bool>(t: &mut [Entry], holds: F)
+    requires { F.IsAlwaysCallable holds }
+    ensures { (f : Entry → Bool) → ((e : Entry) (b : Bool) → F.post holds e b → b ≡ f e) → t.new ≡ map (freed f) t.old }
 {
-    let on = node.bus;
-    planned(0, 32, Step::FreeNode(bus_number(on), node.address))
+    for e in t.iter_mut() {
+        if holds(*e) {
+            *e = free_place();
+        }
+    }
 }
 
-fn plan_done(f: Found, o: Order) -> Plan
-    requires { order_in_range o ≡ true }
-    ensures { Carries (done o) (λ t. f ≡ found_in (take (sought_in 32 o) t) (sought_by o)) result }
+#[tactic(auto, using(crate::proofs::Runs::each))]
+fn poll(t: &mut [Entry])
+    ensures { t.new ≡ map tick t.old }
 {
+    for e in t.iter_mut() {
+        e.left = e.left.saturating_sub(1);
+    }
+}
+
+// An order to places that are known to be good: 12 or 19, or it is done. A refusal changes nothing.
+pub fn carry_out(t: &mut [Entry], o: Order) -> Result<(), Refusal>
+    ensures { (answered result, t.new) ≡ cond (order_in_range o) (done o t.old) (refused (number 12), t.old) }
+{
+    if !o.in_range() {
+        return Err(Refusal::OutOfRange);
+    }
     match o {
-        Order::Open(node, kind, lease) => plan_open(f, node, kind, lease as u16),
-        Order::Close(node, kind) => planned(0, 32, Step::Free(target_of(node, kind))),
-        Order::Restart(node) => plan_restart(node),
-        Order::Poll => polled(32),
-        Order::Unnamed => polled(0),
-        Order::Nothing => polled(0),
+        Order::Open(node, kind, lease) => return open(t, node, kind, lease as u16),
+        Order::Close(node, kind) => free_where(t, |e| e.is_of(node, kind)),
+        Order::Restart(node) => free_where(t, |e| e.is_on(node)),
+        Order::Poll => poll(t),
+        Order::Unnamed | Order::Nothing => {}
     }
-}
-
-// What an order to a table of n places answers and does: whether the table is good, and what was found in it, is told.
-pub(crate) fn plan_of(n: usize, good: bool, f: Found, o: Order) -> Plan
-    ensures { Plans n good f o result }
-{
-    if n != 32 {
-        return refused(Refusal::NoRoom);
-    }
-    if !good {
-        return refused(Refusal::BadRecord);
-    }
-    if !order_in_range(o) {
-        return refused(Refusal::OutOfRange);
-    }
-    plan_done(f, o)
-}
-
-fn poll_in(p: Places, n: usize) -> Places
-    requires { n ≤ 32 }
-    ensures { result.rows ≡ polled_in n p.rows }
-{
-    let mut q = p;
-    let mut i = 0;
-    while i < n {
-        let e = p.rows[i];
-        q.rows[i] = tick_of(e);
-        i += 1;
-    }
-    q
-}
-
-fn each_in(p: Places, from: usize, to: usize, s: Step) -> Places
-    requires { (from ≤ to) × (to ≤ 32) }
-    ensures { result.rows ≡ steps from to s p.rows }
-{
-    let mut q = p;
-    let mut i = from;
-    while i < to {
-        let e = p.rows[i];
-        q.rows[i] = stepped(e, s);
-        i += 1;
-    }
-    q
+    Ok(())
 }
 
 // The board carries out an order, or refuses it and changes nothing.
 pub fn apply(p: Places, o: Order) -> Changed
-    ensures { (paper_answer result.answer, result.places.rows) ≡ change p.rows o }
+    ensures { (answered result.answer, result.places.rows) ≡ change p.rows o }
 {
-    let good = is_valid(p);
-    let f = find(p, sought_in(32, o), sought(o));
-    let d = plan_of(32, good, f, o);
-    let answer = d.answer;
-    let step = d.step;
-    let q = each_in(poll_in(p, d.polled), d.from, d.to, step);
-    Changed {
-        answer: answer,
-        places: q,
-    }
+    let mut places = p;
+    let answer = crate::table::change(&mut places.rows, o);
+    Changed { answer, places }
 }

@@ -114,6 +114,13 @@ board_short entries h g =
       lines_short entries g,
     ))
 
+-- for the functions that append: the most bytes of a number, and of the parts of a line
+pub ruleset number = (decimal-two, decimal_byte, decimal_u16)
+
+pub ruleset parts = (node_short, kind_short, due_short, polls_short)
+
+pub ruleset heads = (count_short, full_short, due_count_short)
+
 module _ (refusal : ℕ) (entries : List Entry) where
   text_short : refusal < 256 → length entries ≤ 32 → Held entries → length (board_text refusal entries) ≤ 4096
   unfolding board_text

@@ -5,7 +5,7 @@ use mathlib.Core.Path.{◌≡◌, refl, sym, ap, ◌∙◌}
 use mathlib.Core.Bool.{Bool, true, false}
 use mathlib.Core.List.{List, [], ◌∷◌}
 use lib.Dec.{ltb}
-use borrow.Author.Tests.{ltb-true, ltb-false, le-leb, lt-leb}
+use borrow.Author.Tests.{ltb-true, ltb-false, le-leb}
 use lib.ListN.{length, get_or, drop}
 use Rattle.refusal.proofs.Rest.{rest_here, rest_end}
 use Rattle.board_lines.specs.Lease.{is_digit, all_digits, value_from, lease_of}
@@ -30,11 +30,8 @@ pub record Reading (text : List ℕ) (n i : ℕ) : Type 0 where
   pub digits : all_digits (drop i text) ≡ all_digits text
   pub value : min 65536 (value_from n (drop i text)) ≡ min 65536 (value_from 0 text)
 
-pub reading_start : (text : List ℕ) → Reading text 0 0
-reading_start text = record { within = omega arith; small = omega arith; digits = refl; value = refl }
-
 module _ (text : List ℕ) (n i : ℕ) (r : Reading text n i) where
-  pub reading_more : i < length text → 48 ≤ get_or text i 0 → get_or text i 0 ≤ 57 → (m : ℕ) → m ≡ min 65536 (n * 10 + (get_or text i 0 - 48))
+  pub reading_more : i < length text → 48 ≤ get_or text i 0 → get_or text i 0 ≤ 57 → (m : ℕ) → m ≡ min (n * 10 + (get_or text i 0 - 48)) 65536
       → Reading text m (i + 1)
   unfolding all_digits value_from is_digit
   reading_more h low high m e =
@@ -43,28 +40,21 @@ module _ (text : List ℕ) (n i : ℕ) (r : Reading text n i) where
       let all : all_digits (b ∷ drop (i + 1) text) ≡ all_digits text = ap all_digits (sym here) ∙ r.digits in
       let said : min 65536 (value_from n (b ∷ drop (i + 1) text)) ≡ min 65536 (value_from 0 text) =
       ap (λ (l : List ℕ). min 65536 (value_from n l)) (sym here) ∙ r.value in
+      let f : m ≡ min 65536 (n * 10 + (b - 48)) = omega (arith, e) in
       record {
         within = omega arith;
-        small = omega (arith, e);
+        small = omega (arith, f);
         digits = rw (le-leb 48 b low, le-leb b 57 high) at all;
-        value = ap (λ (k : ℕ). min 65536 (value_from k (drop (i + 1) text))) e ∙ cap (drop (i + 1) text) (n * 10 + (b - 48)) ∙ said;
+        value = ap (λ (k : ℕ). min 65536 (value_from k (drop (i + 1) text))) f ∙ cap (drop (i + 1) text) (n * 10 + (b - 48)) ∙ said;
       }
 
-  other : is_digit (get_or text i 0) ≡ false → i < length text → 0 ≡ lease_of text
+  pub reading_other : i < length text → is_digit (get_or text i 0) ≡ false → 0 ≡ lease_of text
   unfolding all_digits lease_of
-  other wrong h =
+  reading_other h wrong =
       let here = rest_here text i h in
       let all : all_digits (get_or text i 0 ∷ drop (i + 1) text) ≡ all_digits text = ap all_digits (sym here) ∙ r.digits in
       let none : false ≡ all_digits text = rw wrong at all in
       rw (← none)
-
-  pub reading_low : i < length text → get_or text i 0 < 48 → 0 ≡ lease_of text
-  unfolding is_digit
-  reading_low h low = other (rw (lt-leb 48 (get_or text i 0) low)) h
-
-  pub reading_high : i < length text → 48 ≤ get_or text i 0 → 57 < get_or text i 0 → 0 ≡ lease_of text
-  unfolding is_digit
-  reading_high h low high = other (rw (le-leb 48 (get_or text i 0) low, lt-leb (get_or text i 0) 57 high)) h
 
   pub reading_end : length text ≤ i → n ≡ lease_of text
   unfolding all_digits value_from lease_of

@@ -1,6 +1,9 @@
 -- The text that the program replay prints of a board's list, in the words of the supervisory example (host/example/handover.c: print_head,
 -- print_entry, node_words); of a refusal the one line `refused 19`. ASCII, each line ended by a line feed.
-use Rattle.std.specs.Prelude.{ℕ, ◌+◌, ◌/◌, ◌%◌, ◌≤◌, ◌<◌, Bool, cond, List, [], ◌∷◌, ◌++◌, ltb, eqb, length}
+use Rattle.std.specs.Prelude.{ℕ, ◌+◌, ◌/◌, ◌%◌, ◌≤◌, ◌<◌, Bool, cond, List, [], ◌∷◌, ◌++◌, ltb, eqb, length, Result, Ok, Err}
+use Rattle.arrayvec.specs.ArrayVec.{ArrayVec}
+use Rattle.refusal.specs.declared.Refusal.{Refusal}
+use Rattle.refusal.specs.Refusals.{number_of}
 use Rattle.refusal.specs.Room.{overlay}
 use Rattle.board.specs.declared.entries.Entry.{Entry}
 use Rattle.board.specs.Entries.{count}
@@ -140,6 +143,11 @@ refused_line n = (refused_word ++ decimal n) ++ (10 ∷ [])
 -- of a list's answer: the refusal's number, 0 for none, and the entries
 unfoldable pub board_text : ℕ → List Entry → List ℕ
 board_text refusal entries = cond (eqb refusal 0) (board_lines entries) (refused_line refusal)
+
+-- of a list by value, or the refusal in its place
+abbrev pub list_text : Result (ArrayVec Entry) Refusal → List ℕ
+list_text (Ok list) = board_text 0 list.items
+list_text (Err why) = board_text (number_of why) []
 
 -- a text at the start of lent room, where it fits, and its length; else 0, and the room as it was
 unfoldable pub laid_in : List ℕ → List ℕ → ℕ × List ℕ

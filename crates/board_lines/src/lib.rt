@@ -3,262 +3,264 @@
 
 pub mod lease;
 
-ghost use Rattle.std.specs.Prelude.{◌≡◌, cond, ℕ, ◌+◌, ◌≤◌, ◌<◌, min, eqb, length, take};
+ghost use Rattle.std.specs.Prelude.{◌≡◌, ◌+◌, ◌≤◌, ◌<◌, ◌++◌, length, take, count_by};
+ghost use Rattle.arrayvec.specs.ArrayVec.{array_vec_len};
 ghost use Rattle.lines.specs.Text.{decimal};
-ghost use Rattle.board.specs.Entries.{count};
-ghost use Rattle.board_lines.specs.Text.{hex_digit, hex_byte, node_text, kind_text, due_text, polls_text, left_text, entry_line, entry_lines, is_due, count_text, full_text, due_count, head_line, board_lines, refused_line, board_text, laid_in};
-ghost use Rattle.board_lines.specs.Private.{Put, Laid};
+ghost use Rattle.board_lines.specs.Text.{hex_digit, hex_byte, node_text, kind_text, due_text, polls_text, left_text, entry_line, entry_lines, is_due, count_text, full_text, due_count, head_line, board_lines, refused_line, board_text, list_text, laid_in};
 
-use board::entries::{Entry, Places};
-use board::listing::Sorted;
+use arrayvec::ArrayVec;
+use board::entries::Entry;
+use board::listing::Entries;
+use refusal::Refusal;
 
-// Writes bytes from a place on, and answers the place after them.
-fn put_bytes(out: &mut [u8], place: usize, bytes: &[u8]) -> usize
-    requires { place + length bytes.now ≤ length out.old }
-    ensures { Put result out.new out.old place bytes.now }
+// The most bytes of a text.
+const MOST: usize = 3436;
+
+type Text = ArrayVec<u8, MOST>;
+
+fn append(text: &mut Text, bytes: &[u8])
+    requires { array_vec_len text.old + length bytes.now ≤ 3436 }
+    ensures items { text.new.items ≡ text.old.items ++ bytes.now }
+    ensures len { array_vec_len text.new ≡ array_vec_len text.old + length bytes.now }
 {
-    let mut o = place;
-    let mut i: usize = 0;
-    while i < bytes.len() {
-        out[o] = bytes[i];
-        o += 1;
-        i += 1;
-    }
-    o
+    let _ = text.try_extend_from_slice(bytes);
 }
 
-// Writes a number in decimal.
-fn put_number(out: &mut [u8], place: usize, n: u32) -> usize
-    requires { place + length (decimal n) ≤ length out.old }
-    ensures { Put result out.new out.old place (decimal n) }
+// A number in decimal.
+fn append_number(text: &mut Text, n: u32)
+    requires { array_vec_len text.old + length (decimal n) ≤ 3436 }
+    ensures items { text.new.items ≡ text.old.items ++ decimal n }
+    ensures len { array_vec_len text.new ≡ array_vec_len text.old + length (decimal n) }
 {
-    let d = lines::digits(n);
-    let digits = d.bytes;
-    let many = d.count;
-    put_bytes(out, place, &digits[..many])
+    append(text, lines::digits(n).as_slice());
 }
 
+#[tactic(auto, unfolding(crate::specs::Text::hex_digit))]
 fn hex_digit(d: u8) -> u8
     requires { d < 16 }
     ensures { result ≡ hex_digit d }
 {
-    if d < 10 { 48 + d } else { 55 + d }
+    if d < 10 { b'0' + d } else { b'A' - 10 + d }
 }
 
-fn put_hex(out: &mut [u8], place: usize, b: u8) -> usize
-    requires { place + 2 ≤ length out.old }
-    ensures { Put result out.new out.old place (hex_byte b) }
+#[tactic(auto, unfolding(crate::specs::Text::hex_byte))]
+fn append_hex(text: &mut Text, b: u8)
+    requires { array_vec_len text.old + 2 ≤ 3436 }
+    ensures items { text.new.items ≡ text.old.items ++ hex_byte b }
+    ensures len { array_vec_len text.new ≡ array_vec_len text.old + length (hex_byte b) }
 {
-    let high = hex_digit(b / 16);
-    let low = hex_digit(b % 16);
-    out[place] = high;
-    out[place + 1] = low;
-    place + 2
+    text.push(hex_digit(b / 16));
+    text.push(hex_digit(b % 16));
 }
 
-// The parts of an entry's line, each at most as long as its contract says last.
-fn put_node(out: &mut [u8], place: usize, bus: u8, address: u8) -> usize
-    requires { place + 12 ≤ length out.old }
-    ensures { Laid result out.new out.old place (node_text bus address) 12 }
+// The parts of an entry's line, each at most as long as its contract says first.
+#[tactic(auto, using(crate::proofs::Sizes::number), unfolding(crate::specs::Text::node_text))]
+fn append_node(text: &mut Text, bus: u8, address: u8)
+    requires { array_vec_len text.old + 12 ≤ 3436 }
+    ensures items { text.new.items ≡ text.old.items ++ node_text bus address }
+    ensures len { array_vec_len text.new ≡ array_vec_len text.old + length (node_text bus address) }
 {
     if bus == 1 {
-        let word = put_bytes(out, place, b"  I2C ");
-        return put_hex(out, word, address);
+        append(text, b"  I2C ");
+        append_hex(text, address);
+    } else {
+        append(text, b"  serial ");
+        append_number(text, u32::from(address));
     }
-    let name = put_bytes(out, place, b"  serial ");
-    put_number(out, name, address as u32)
 }
 
-fn put_kind(out: &mut [u8], place: usize, kind: u8) -> usize
-    requires { place + 25 ≤ length out.old }
-    ensures { Laid result out.new out.old place (kind_text kind) 25 }
+#[tactic(auto, unfolding(crate::specs::Text::kind_text))]
+fn append_kind(text: &mut Text, kind: u8)
+    requires { array_vec_len text.old + 25 ≤ 3436 }
+    ensures items { text.new.items ≡ text.old.items ++ kind_text kind }
+    ensures len { array_vec_len text.new ≡ array_vec_len text.old + length (kind_text kind) }
 {
     if kind == 1 {
-        return put_bytes(out, place, b": valve forced shut, ");
+        append(text, b": valve forced shut, ");
+    } else {
+        append(text, b": temporary calibration, ");
     }
-    put_bytes(out, place, b": temporary calibration, ")
 }
 
-fn put_due(out: &mut [u8], place: usize, kind: u8) -> usize
-    requires { place + 69 ≤ length out.old }
-    ensures { Laid result out.new out.old place (due_text kind) 69 }
+#[tactic(auto, unfolding(crate::specs::Text::due_text))]
+fn append_due(text: &mut Text, kind: u8)
+    requires { array_vec_len text.old + 69 ≤ 3436 }
+    ensures items { text.new.items ≡ text.old.items ++ due_text kind }
+    ensures len { array_vec_len text.new ≡ array_vec_len text.old + length (due_text kind) }
 {
     if kind == 1 {
-        return put_bytes(
-            out,
-            place,
-            b"DUE: return it to normal control, or renew it\n",
+        append(text, b"DUE: return it to normal control, or renew it\n");
+    } else {
+        append(
+            text,
+            b"DUE: set a calibration for good, restart the controller, or renew it\n",
         );
     }
-    put_bytes(
-        out,
-        place,
-        b"DUE: set a calibration for good, restart the controller, or renew it\n",
-    )
 }
 
-fn put_polls(out: &mut [u8], place: usize, left: u16) -> usize
-    requires { place + 17 ≤ length out.old }
-    ensures { Laid result out.new out.old place (polls_text left) 17 }
+#[tactic(auto, using(crate::proofs::Sizes::number), unfolding(crate::specs::Text::polls_text))]
+fn append_polls(text: &mut Text, left: u16)
+    requires { array_vec_len text.old + 17 ≤ 3436 }
+    ensures items { text.new.items ≡ text.old.items ++ polls_text left }
+    ensures len { array_vec_len text.new ≡ array_vec_len text.old + length (polls_text left) }
 {
-    let number = put_number(out, place, left as u32);
+    append_number(text, u32::from(left));
     if left == 1 {
-        return put_bytes(out, number, b" poll left\n");
+        append(text, b" poll left\n");
+    } else {
+        append(text, b" polls left\n");
     }
-    put_bytes(out, number, b" polls left\n")
 }
 
-fn put_left(out: &mut [u8], place: usize, kind: u8, left: u16) -> usize
-    requires { place + 69 ≤ length out.old }
-    ensures { Laid result out.new out.old place (left_text kind left) 69 }
+#[tactic(auto, using(crate::proofs::Sizes::parts), unfolding(crate::specs::Text::entry_line, crate::specs::Text::left_text))]
+fn append_entry(text: &mut Text, e: Entry)
+    requires { array_vec_len text.old + 106 ≤ 3436 }
+    ensures items { text.new.items ≡ text.old.items ++ entry_line e }
+    ensures room { array_vec_len text.new ≤ array_vec_len text.old + 106 }
 {
-    if left == 0 {
-        return put_due(out, place, kind);
+    append_node(text, e.bus, e.address);
+    append_kind(text, e.kind);
+    if e.left == 0 {
+        append_due(text, e.kind);
+    } else {
+        append_polls(text, e.left);
     }
-    put_polls(out, place, left)
 }
 
-fn put_entry(out: &mut [u8], place: usize, e: Entry) -> usize
-    requires { place + 106 ≤ length out.old }
-    ensures { Laid result out.new out.old place (entry_line e) 106 }
+// A line for each entry.
+#[tactic(auto, unfolding(crate::specs::Text::entry_lines))]
+fn append_entries(text: &mut Text, entries: &[Entry])
+    requires { (length entries.now ≤ 32) × (array_vec_len text.old ≤ 44) }
+    ensures { text.new.items ≡ text.old.items ++ entry_lines entries.now }
 {
-    let node = put_node(out, place, e.bus, e.address);
-    let kind = put_kind(out, node, e.kind);
-    put_left(out, kind, e.kind, e.left)
-}
-
-// The lines of the first n places.
-fn put_entries(out: &mut [u8], place: usize, p: Places, n: usize) -> usize
-    requires { (n ≤ 32) × (place + 3392 ≤ length out.old) }
-    ensures { Laid result out.new out.old place (entry_lines (take n p.rows)) 3392 }
-{
-    let mut o = place;
-    let mut i: usize = 0;
-    while i < n {
-        let e = p.rows[i];
-        o = put_entry(out, o, e);
-        i += 1;
+    for e in entries {
+        append_entry(text, *e);
     }
-    o
 }
 
-fn due_one(left: u16) -> usize
-    ensures { (result ≡ cond {A = ℕ} (eqb left 0) 1 0) × (result ≤ 1) }
+// How many entries have no poll left.
+fn due_in(entries: &[Entry]) -> usize
+    ensures { result ≡ count_by is_due entries.now }
 {
-    if left == 0 { 1 } else { 0 }
-}
-
-// How many of the first n places have no poll left.
-fn due_in(p: Places, n: usize) -> usize
-    requires { n ≤ 32 }
-    ensures { (result ≡ count is_due (take n p.rows)) × (result ≤ 32) }
-{
-    let mut due: usize = 0;
-    let mut i: usize = 0;
-    while i < n {
-        let e = p.rows[i];
-        due += due_one(e.left);
-        i += 1;
-    }
-    due
+    entries.iter().filter(|e| e.left == 0).count()
 }
 
 // The parts of the line above the entries.
-fn put_count(out: &mut [u8], place: usize, n: usize) -> usize
-    requires { (n ≤ 32) × (place + 10 ≤ length out.old) }
-    ensures { Laid result out.new out.old place (count_text n) 10 }
+#[tactic(auto, using(crate::proofs::Sizes::number), unfolding(crate::specs::Text::count_text))]
+fn append_count(text: &mut Text, n: usize)
+    requires { (n ≤ 32) × (array_vec_len text.old + 10 ≤ 3436) }
+    ensures items { text.new.items ≡ text.old.items ++ count_text n }
+    ensures len { array_vec_len text.new ≡ array_vec_len text.old + length (count_text n) }
 {
     if n == 0 {
-        return put_bytes(out, place, b"empty");
-    }
-    let number = put_number(out, place, n as u32);
-    if n == 1 {
-        return put_bytes(out, number, b" entry");
-    }
-    put_bytes(out, number, b" entries")
-}
-
-fn put_full(out: &mut [u8], place: usize, n: usize) -> usize
-    requires { place + 7 ≤ length out.old }
-    ensures { Laid result out.new out.old place (full_text n) 7 }
-{
-    if n == 32 {
-        return put_bytes(out, place, b" (full)");
-    }
-    place
-}
-
-fn put_due_count(out: &mut [u8], place: usize, n: usize, due: usize) -> usize
-    requires { (due ≤ 32) × (place + 11 ≤ length out.old) }
-    ensures { Laid result out.new out.old place (due_count n due) 11 }
-{
-    if due == 0 {
-        if n == 0 {
-            return put_bytes(out, place, b"\n");
+        append(text, b"empty");
+    } else {
+        append_number(text, n as u32);
+        if n == 1 {
+            append(text, b" entry");
+        } else {
+            append(text, b" entries");
         }
-        return put_bytes(out, place, b", none due\n");
     }
-    let comma = put_bytes(out, place, b", ");
-    let number = put_number(out, comma, due as u32);
-    put_bytes(out, number, b" DUE\n")
 }
 
-fn put_head(out: &mut [u8], n: usize, due: usize) -> usize
-    requires { (n ≤ 32) × (due ≤ 32) × (44 ≤ length out.old) }
-    ensures { Laid result out.new out.old 0 (head_line n due) 44 }
+#[tactic(auto, using(crate::proofs::Sizes::number), unfolding(crate::specs::Text::due_count))]
+fn append_due_count(text: &mut Text, n: usize, due: usize)
+    requires { (due ≤ 32) × (array_vec_len text.old + 11 ≤ 3436) }
+    ensures items { text.new.items ≡ text.old.items ++ due_count n due }
+    ensures len { array_vec_len text.new ≡ array_vec_len text.old + length (due_count n due) }
 {
-    let word = put_bytes(out, 0, b"handover board: ");
-    let number = put_count(out, word, n);
-    let full = put_full(out, number, n);
-    put_due_count(out, full, n, due)
-}
-
-// The text of the first n places.
-fn put_board(out: &mut [u8], p: Places, n: usize) -> usize
-    requires { (n ≤ 32) × (3436 ≤ length out.old) }
-    ensures { Laid result out.new out.old 0 (board_lines (take n p.rows)) 3436 × (length p.rows ≡ 32) }
-{
-    let due = due_in(p, n);
-    let head = put_head(out, n, due);
-    put_entries(out, head, p, n)
-}
-
-fn put_refused(out: &mut [u8], n: u8) -> usize
-    requires { 12 ≤ length out.old }
-    ensures { Laid result out.new out.old 0 (refused_line n) 12 }
-{
-    let word = put_bytes(out, 0, b"refused ");
-    let number = put_number(out, word, n as u32);
-    put_bytes(out, number, b"\n")
-}
-
-fn at_most_32(count: usize) -> usize
-    ensures { result ≡ min count 32 }
-{
-    if count < 32 { count } else { 32 }
-}
-
-fn put_text(out: &mut [u8], s: Sorted) -> usize
-    requires { 3436 ≤ length out.old }
-    ensures { Laid result out.new out.old 0 (board_text s.answer.refusal (take s.count s.places.rows)) 3436 }
-{
-    let answer = s.answer;
-    let places = s.places;
-    if answer.refusal == 0 {
-        return put_board(out, places, at_most_32(s.count));
+    if due > 0 {
+        append(text, b", ");
+        append_number(text, due as u32);
+        append(text, b" DUE\n");
+    } else if n == 0 {
+        append(text, b"\n");
+    } else {
+        append(text, b", none due\n");
     }
-    put_refused(out, answer.refusal)
 }
 
-// Lays the text of a list at the start of the lent room, where it fits, and answers its length; else 0.
-pub fn text(s: Sorted, out: &mut [u8]) -> usize
-    ensures { (result, out.new) ≡ laid_in (board_text s.answer.refusal (take s.count s.places.rows)) out.old }
+#[tactic(auto, using(crate::proofs::Sizes::heads), unfolding(crate::specs::Text::head_line, crate::specs::Text::full_text))]
+fn append_head(text: &mut Text, n: usize, due: usize)
+    requires { (n ≤ 32) × (due ≤ 32) × (array_vec_len text.old ≡ 0) }
+    ensures items { text.new.items ≡ text.old.items ++ head_line n due }
+    ensures len { array_vec_len text.new ≤ 44 }
 {
-    let mut whole = [0u8; 3436];
-    let n = put_text(&mut whole, s);
+    append(text, b"handover board: ");
+    append_count(text, n);
+    if n == 32 {
+        append(text, b" (full)");
+    }
+    append_due_count(text, n, due);
+}
+
+#[tactic(auto, using(crate::proofs::Rows::due), unfolding(crate::specs::Text::board_lines))]
+fn board_text(entries: &[Entry]) -> Text
+    requires { length entries.now ≤ 32 }
+    ensures { result.items ≡ board_lines entries.now }
+{
+    let mut text = Text::new();
+    append_head(&mut text, entries.len(), due_in(entries));
+    append_entries(&mut text, entries);
+    text
+}
+
+#[tactic(auto, using(crate::proofs::Sizes::number), unfolding(crate::specs::Text::refused_line))]
+fn refused_text(n: u8) -> Text
+    ensures { result.items ≡ refused_line n }
+{
+    let mut text = Text::new();
+    append(&mut text, b"refused ");
+    append_number(&mut text, u32::from(n));
+    append(&mut text, b"\n");
+    text
+}
+
+#[tactic(auto, using(crate::proofs::Rows::texts))]
+fn list_text(list: Result<Entries, Refusal>) -> Text
+    ensures { result.items ≡ list_text list }
+{
+    match list {
+        Ok(entries) => board_text(entries.as_slice()),
+        Err(why) => refused_text(why.number()),
+    }
+}
+
+// Lays a text at the start of the lent room, where it fits, and answers its length; else 0.
+#[tactic(auto, unfolding(crate::specs::Text::laid_in, refusal::specs::Room::overlay))]
+fn lay(text: &Text, out: &mut [u8]) -> usize
+    ensures { (result, out.new) ≡ laid_in text.now.items out.old }
+{
+    let n = text.len();
     if out.len() < n {
         return 0;
     }
-    put_bytes(out, 0, &whole[..n]);
+    out[..n].copy_from_slice(text.as_slice());
     n
+}
+
+// The text of a list or of its refusal, laid at the start of the lent room, where it fits, and its length; else 0.
+pub fn text(list: Result<Entries, Refusal>, out: &mut [u8]) -> usize
+    ensures { (result, out.new) ≡ laid_in (list_text list) out.old }
+{
+    lay(&list_text(list), out)
+}
+
+#[tactic(auto, unfolding(crate::specs::Text::board_text))]
+fn text_by(refusal: u8, entries: &[Entry]) -> Text
+    ensures { result.items ≡ board_text refusal (take 32 entries.now) }
+{
+    if refusal == 0 {
+        let n = 32.min(entries.len());
+        return board_text(&entries[..n]);
+    }
+    refused_text(refusal)
+}
+
+// The same by the number of a refusal, whatever it is, 0 for none, and of the first 32 of any entries.
+pub fn numbered_text(refusal: u8, entries: &[Entry], out: &mut [u8]) -> usize
+    ensures { (result, out.new) ≡ laid_in (board_text refusal (take 32 entries.now)) out.old }
+{
+    lay(&text_by(refusal, entries), out)
 }

@@ -1,6 +1,5 @@
 -- The laws of the definitions in specs/.
 pub mod ByteLaws
-pub mod FillLaws
 pub mod MarkLaws
 pub mod WholeLaws
 pub mod Apart

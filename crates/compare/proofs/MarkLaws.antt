@@ -6,42 +6,45 @@ use Prim.Native.Nat.{ℕ, zero, suc, ◌+◌, ◌-◌, ◌≤◌, ◌<◌}
 use native.Mathlib.Nat.{zero-add, add_assoc}
 use native.Mathlib.Omega.{arith}
 use lib.Dec.{eqb}
+use mir.Val.{bool_byte}
+use lib.Pointwise.{pointwise}
+use denote.Enum.Bare.{sameb}
 use lib.ListN.{length, set, take, drop, length-set, length-append, length-reverse}
-use borrow.Author.Tests.{eq-eqb, ne_eqb}
 use Rattle.refusal.specs.Room.{overlay}
 use Rattle.refusal.proofs.Room.{overlay_nothing}
 use Rattle.wire_log.specs.Log.{LogRecord, recorded, kinds}
+use Rattle.wire_log.specs.declared.oldest.Found.{Found}
+use Rattle.wire_log.specs.contracts.Kind.{the_type}
+use Rattle.wire_log.specs.Kinds.{number_of_kind}
 use Rattle.wire_log.specs.Oldest.{records_to}
 use Rattle.wire_log.proofs.Turns.{Turn}
 use Rattle.compare.specs.Compare.{same_bytes, mark_of, marks_of, equal_places}
 use Rattle.compare.specs.Private.{marks_to}
+use Rattle.compare.proofs.ByteLaws.{pointwise-same, same_kind}
 
--- two records, by their kinds and where their bodies stand
-module _ (a b : List ℕ) (j s m k t n : ℕ) where
-  abbrev x : LogRecord
-  x = recorded j (take m (drop s a))
+-- two records that the code found: what its tests say
+module _ (a b : List ℕ) (x y : Found) where
+  abbrev in_a : LogRecord
+  in_a = recorded (number_of_kind x.kind) (take x.size (drop x.start a))
 
-  abbrev y : LogRecord
-  y = recorded k (take n (drop t b))
+  abbrev in_b : LogRecord
+  in_b = recorded (number_of_kind y.kind) (take y.size (drop y.start b))
 
-  pub mark-kinds : (j ≡ k → ⊥) → 1 ≡ mark_of x y
-  unfolding mark_of
-  mark-kinds h = rw (ne_eqb j k h)
-
-  parts : same_bytes (take (s + m - s) (drop s a)) (take (t + n - t) (drop t b)) ≡ same_bytes x.body y.body
+  parts : pointwise eqb (take (x.start + x.size - x.start) (drop x.start a)) (take (y.start + y.size - y.start) (drop y.start b)) ≡ same_bytes in_a.body in_b.body
   parts =
-      let p : s + m - s ≡ m = omega arith in
-      let q : t + n - t ≡ n = omega arith in
-      rw (p, q)
+      let p : x.start + x.size - x.start ≡ x.size = omega arith in
+      let q : y.start + y.size - y.start ≡ y.size = omega arith in
+      rw (p, q) (pointwise-same (take x.size (drop x.start a)) (take y.size (drop y.start b)))
 
-  module _ (h : j ≡ k) {r : Bool} (e : r ≡ same_bytes (take (s + m - s) (drop s a)) (take (t + n - t) (drop t b))) where
-    pub mark-same : r ≡ true → 0 ≡ mark_of x y
-    unfolding mark_of
-    mark-same f = rw (eq-eqb j k h, sym (sym f ∙ e ∙ parts))
+  pub mark_kinds : false ≡ sameb the_type x.kind y.kind → 1 ≡ mark_of in_a in_b
+  unfolding mark_of
+  mark_kinds h = rw (sym (same_kind x.kind y.kind) ∙ sym h)
 
-    pub mark-differ : r ≡ false → 1 ≡ mark_of x y
+  module _ (h : true ≡ sameb the_type x.kind y.kind) where
+    pub mark_by : (t : Bool) → t ≡ pointwise eqb (take (x.start + x.size - x.start) (drop x.start a)) (take (y.start + y.size - y.start) (drop y.start b))
+        → cond {A = ℕ} t 0 1 ≡ mark_of in_a in_b
     unfolding mark_of
-    mark-differ f = rw (eq-eqb j k h, sym (sym f ∙ e ∙ parts))
+    mark_by t e = rw (sym (same_kind x.kind y.kind) ∙ sym h, sym parts ∙ sym e)
 
 -- marks one after another
 pub equal_append : (xs ys : List ℕ) → equal_places (xs ++ ys) ≡ equal_places xs + equal_places ys
@@ -150,7 +153,7 @@ module _ (a b room : List ℕ) (whole : List ℕ) (n : ℕ) where
 
   module _ (marks : List ℕ) (p q left same : ℕ) (l : Marking marks p q left same) where
     pub marking_more : {j s m k t n' v one : ℕ} → 0 < left → left ≤ length marks → Turn kinds a p j s m → Turn kinds b q k t n'
-        → v ≡ mark_of (recorded j (take m (drop s a))) (recorded k (take n' (drop t b))) → one ≡ cond {A = ℕ} (eqb v 0) 1 0
+        → v ≡ mark_of (recorded j (take m (drop s a))) (recorded k (take n' (drop t b))) → one ≡ bool_byte (eqb v 0)
         → Marking (set marks (left - 1) v) s t (left - 1) (same + one)
     marking_more {j} {s} {m} {k} {t} {n'} {v} {one} some fits x y e f =
         let even : length (records_to kinds a p) ≡ length (records_to kinds b q) = sym l.some_a ∙ l.some_b in
@@ -160,8 +163,8 @@ module _ (a b room : List ℕ) (whole : List ℕ) (n : ℕ) where
         let more-b : length (records_to kinds b q) ≡ suc (length (records_to kinds b t)) = size_b a b p q x y even in
         let before : length (marks_to a s b t) ≡ length (records_to kinds a s) = length_before a b p q x y even in
         let equals : equal_places (marks_to a p b q) ≡ equal_places (marks_to a s b t) + one =
-        ap equal_places last ∙ equal_append (marks_to a s b t) (v ∷ []) ∙ ap (λ (w : ℕ). equal_places (marks_to a s b t) + w) (equal_one v ∙ sym f) in
-        let most : one ≤ 1 = subst (λ (w : ℕ). w ≤ 1) (sym f) (at_most (eqb v 0)) in
+        ap equal_places last ∙ equal_append (marks_to a s b t) (v ∷ []) ∙ ap (λ (w : ℕ). equal_places (marks_to a s b t) + w) (equal_one v ∙ sym (f ∙ counted_by (eqb v 0))) in
+        let most : one ≤ 1 = subst (λ (w : ℕ). w ≤ 1) (sym (f ∙ counted_by (eqb v 0))) (at_most (eqb v 0)) in
         record {
           kept = length-set marks (left - 1) v ∙ l.kept;
           in_a = omega (arith, x.ends, l.in_a);
@@ -176,6 +179,10 @@ module _ (a b room : List ℕ) (whole : List ℕ) (n : ℕ) where
               ∙ l.laid;
         }
       where
+        counted_by : (c : Bool) → bool_byte c ≡ cond {A = ℕ} c 1 0
+        counted_by true = refl
+        counted_by false = refl
+
         at_most : (c : Bool) → cond {A = ℕ} c 1 0 ≤ 1
         at_most true = omega arith
         at_most false = omega arith
@@ -212,3 +219,10 @@ marking_start a b room p q n in_a in_b many_a many_b = record {
   counted = zero-add (equal_places (marks_to a p b q));
   laid = refl;
 }
+
+pub length-marked : (a b : List ℕ) (p q n : ℕ) → n ≡ length (records_to kinds a p) → n ≡ length (records_to kinds b q) → length (marks_to a p b q) ≡ n
+unfolding marks_to
+length-marked a b p q n e f =
+    length-marks (reverse (records_to kinds a p)) (reverse (records_to kinds b q))
+    (length-reverse (records_to kinds a p) ∙ sym e ∙ f ∙ sym (length-reverse (records_to kinds b q)))
+    ∙ length-reverse (records_to kinds a p) ∙ sym e

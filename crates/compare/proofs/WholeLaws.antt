@@ -1,16 +1,18 @@
 -- The marks of two whole logs. Assumes nothing.
 use mathlib.Core.Path.{◌≡◌, refl, sym, ap, ◌∙◌}
+use mathlib.Core.Logic.{◌⊎◌, inl, inr}
 use mathlib.Core.Bool.{Bool, true, false}
-use mathlib.Core.List.{List, [], ◌∷◌, ◌++◌, reverse, reverse-append, append-nil}
+use mathlib.Core.List.{List, [], ◌∷◌, ◌++◌, reverse, reverse-append, append_assoc, append-nil}
 use Prim.Native.Nat.{ℕ, zero, suc, ◌+◌, ◌-◌, ◌≤◌, ◌<◌, min, max}
 use native.Mathlib.Omega.{arith}
 use lib.Dec.{ltb}
-use lib.ListN.{length, take, drop, replicate, length-take, length-drop, length-reverse, take-append-drop}
+use lib.ListN.{length, take, drop, replicate, length-take, length-drop, length-append, length-reverse, length-replicate, take-append-drop}
+use lib.Seq.{take_at, drop_at, drop-drop}
+use borrow.Rule.Slice.PartMut.{post_of}
 use borrow.Author.Tests.{lt-ltb, le-ltb, ltb-true, ltb-false, ne_eqb}
 use Rattle.refusal.specs.Refusals.{Numbered, number, Answered, served, refused}
 use Rattle.refusal.specs.Room.{overlay}
 use Rattle.refusal.proofs.Order.{refused_not_served}
-use Rattle.refusal.proofs.Room.{overlay_nothing, overlay_then}
 use Rattle.wire_log.specs.Log.{LogRecord, kinds}
 use Rattle.wire_log.specs.Check.{counting, records_of}
 use Rattle.wire_log.specs.Oldest.{records_to, LeavesOut}
@@ -91,6 +93,30 @@ whole_is xs ys m n e f =
           ∙ ap (λ (l : List ℕ). marks_of (reverse (drop j xs)) (reverse (drop k ys)) ++ l) (surplus-marks (reverse (take j xs)) (reverse (take k ys)) m n s t),
     )
 
+-- the mark that the code gives all of these
+abbrev pub Past : ℕ → ℕ → ℕ → Type 0
+Past m n past = ((m < n) × (past ≡ 3)) ⊎ ((n ≤ m) × (past ≡ 2))
+
+past_is : (m n past : ℕ) → Past m n past → replicate (max m n - min m n) past ≡ surplus m n
+past_is m n past (inl h) =
+    let none : m - n ≡ 0 = omega (arith, h.0) in
+    let many : max m n - min m n ≡ n - m = omega (arith, h.0) in
+    rw (none, many, h.1)
+past_is m n past (inr h) =
+    let none : n - m ≡ 0 = omega (arith, h.0) in
+    let many : max m n - min m n ≡ m - n = omega (arith, h.0) in
+    rw (none, many, h.1) (sym (append-nil (replicate (m - n) 2)))
+
+-- two parts of the room written one after the other
+two_parts : (room xs ys : List ℕ) (j k : ℕ) → length xs ≡ j → length ys ≡ k
+    → take j (xs ++ drop j room) ++ (ys ++ post_of j k (xs ++ drop j room)) ≡ overlay room 0 (xs ++ ys)
+unfolding overlay
+two_parts room xs ys j k e f =
+    let front : take j (xs ++ drop j room) ≡ xs = take_at xs (drop j room) j e in
+    let back : post_of j k (xs ++ drop j room) ≡ drop (0 + length (xs ++ ys)) room =
+    ap (drop k) (drop_at xs (drop j room) j e) ∙ drop-drop k j room ∙ ap (λ (n : ℕ). drop n room) (omega (arith, e, f, length-append xs ys)) in
+    rw (front, back) (sym (append_assoc xs ys (drop (0 + length (xs ++ ys)) room)))
+
 -- two logs that passed their checks
 module _ (a b : List ℕ) (m n : ℕ) (x : Passed kinds a m) (y : Passed kinds b n) where
   abbrev whole : List ℕ
@@ -122,9 +148,6 @@ module _ (a b : List ℕ) (m n : ℕ) (x : Passed kinds a m) (y : Passed kinds b
     pub many_b : both ≡ length (records_to kinds b q)
     many_b = omega (arith, ap (λ (l : List LogRecord). length l) older_b, length-drop (n - min m n) y.listing, y.many, e)
 
-    first : List ℕ
-    first = marks_to a p b q
-
     split : whole ≡ marks_to a p b q ++ surplus m n
     unfolding marks_to
     split = (whole_is x.listing y.listing m n x.many y.many).2 ∙ (λ i. marks_of (reverse (sym older_a i)) (reverse (sym older_b i)) ++ surplus m n)
@@ -136,41 +159,28 @@ module _ (a b : List ℕ) (m n : ℕ) (x : Passed kinds a m) (y : Passed kinds b
         (length-reverse (records_to kinds a p) ∙ sym many_a ∙ many_b ∙ sym (length-reverse (records_to kinds b q)))
         ∙ length-reverse (records_to kinds a p) ∙ sym many_a ∙ e
 
-    -- the room is filled from the end of each log on: one of the two writes nothing
-    filled : (room : List ℕ) → max m n ≤ length room
-        → overlay (overlay (overlay room 0 (marks_to a p b q)) n (replicate (m - n) 2)) m (replicate (n - m) 3) ≡ overlay room 0 whole
-    filled room h = go (ltb m n) refl
-      where
-        go : (t : Bool) → ltb m n ≡ t
-            → overlay (overlay (overlay room 0 (marks_to a p b q)) n (replicate (m - n) 2)) m (replicate (n - m) 3) ≡ overlay room 0 whole
-        go true l =
-            let less = ltb-true m n l in
-            let none : m - n ≡ 0 = omega (arith, less) in
-            let rest : whole ≡ marks_to a p b q ++ replicate (n - m) 3 = split ∙ rw none in
-            rw (none, overlay_nothing (overlay room 0 (marks_to a p b q)) n)
-            (overlay_then room 0 (marks_to a p b q) (replicate (n - m) 3) m (omega arith) (omega (arith, length-first, less)) ∙ ap (overlay room 0) (sym rest))
-        go false l =
-            let less = ltb-false m n l in
-            let none : n - m ≡ 0 = omega (arith, less) in
-            let rest : whole ≡ marks_to a p b q ++ replicate (m - n) 2 =
-            split ∙ rw none (ap (λ (w : List ℕ). marks_to a p b q ++ w) (append-nil (replicate (m - n) 2))) in
-            rw none
-            (overlay_nothing (overlay (overlay room 0 (marks_to a p b q)) n (replicate (m - n) 2)) m
-            ∙ overlay_then room 0 (marks_to a p b q) (replicate (m - n) 2) n (omega arith) (omega (arith, length-first, less)) ∙ ap (overlay room 0) (sym rest))
-
     equal_whole : equal_places whole ≡ equal_places (marks_to a p b q)
     equal_whole = ap equal_places split ∙ equal_append (marks_to a p b q) (surplus m n) ∙ omega (arith, surplus_differs m n)
 
-    pub all_marked : (room : List ℕ) (places : ℕ) → places ≡ max m n → places ≤ length room → {same : ℕ} {one two three : List ℕ}
-        → (same ≡ equal_places (marks_to a p b q)) × (one ≡ overlay room 0 (marks_to a p b q))
-        → two ≡ overlay one n (replicate (m - n) 2) → three ≡ overlay two m (replicate (n - m) 3)
-        → (served (places, same), three) ≡ compare a b room
-    all_marked room places f h {same} {one} {two} {three} g j k =
-        let third : three ≡ overlay room 0 whole = k ∙ rw (j, g.1) (filled room (omega (arith, f, h))) in
+    pub all_marked : (room : List ℕ) (places past : ℕ) → places ≡ max m n → places ≤ length room → Past m n past
+        → {same : ℕ} {marks filled : List ℕ} → (same ≡ equal_places (marks_to a p b q)) × (marks ≡ marks_to a p b q)
+        → filled ≡ replicate (length (take (places - both) (drop both (marks ++ drop both room)))) past
+        → (served (places, same), take both (marks ++ drop both room) ++ (filled ++ post_of both (places - both) (marks ++ drop both room))) ≡ compare a b room
+    all_marked room places past f h pasts {same} {marks} {filled} g k =
+        let size : length marks ≡ both = ap (λ (l : List ℕ). length l) g.1 ∙ length-first ∙ sym e in
+        let there : length (take (places - both) (drop both (marks ++ drop both room))) ≡ places - both =
+        simp (length-take, length-drop, length-append) (omega (arith, size, e, f, h)) in
+        let j : filled ≡ replicate (places - both) past = k ∙ ap (λ (n : ℕ). replicate n past) there in
+        let long : length filled ≡ places - both = ap (λ (l : List ℕ). length l) j ∙ length-replicate (places - both) past in
+        let parts : marks ++ filled ≡ whole =
+        (λ i. g.1 i ++ j i) ∙ ap (λ (k : ℕ). marks_to a p b q ++ replicate k past) (omega (arith, e, f))
+        ∙ ap (λ (l : List ℕ). marks_to a p b q ++ l) (past_is m n past pasts) ∙ sym split in
+        let room-is : take both (marks ++ drop both room) ++ (filled ++ post_of both (places - both) (marks ++ drop both room)) ≡ overlay room 0 whole =
+        two_parts room marks filled both (places - both) size long ∙ ap (overlay room 0) parts in
         let equal : same ≡ equal_places whole = g.0 ∙ sym equal_whole in
-        let size : places ≡ length whole = f ∙ sym length_whole in
-        (λ i. (served (size i, equal i), third i))
-        ∙ rw (le-ltb (length room) (length whole) (omega (arith, size, h))) at (compared room)
+        let many : places ≡ length whole = f ∙ sym length_whole in
+        (λ i. (served (many i, equal i), room-is i))
+        ∙ rw (le-ltb (length room) (length whole) (omega (arith, many, h))) at (compared room)
 
 -- the comparison where a log is bad
 module _ (a b room : List ℕ) where

@@ -6,6 +6,7 @@ use Rattle.refusal.specs.Refusals.{number, Answered, served, refused}
 use Rattle.refusal.specs.Room.{overlay}
 use Rattle.wire_log.specs.Log.{LogRecord, kinds}
 use Rattle.wire_log.specs.Check.{records_of}
+use Rattle.compare.specs.declared.Compared.{Compared}
 
 -- what is told of a place, as C gets it
 abbrev pub same : ℕ
@@ -58,6 +59,10 @@ abbrev pub laid_by : Answered (List ℕ) → List ℕ → Answered (ℕ × ℕ) 
 laid_by (refused n) room = (refused n, room)
 laid_by (served marks) room =
     cond (ltb (length room) (length marks)) (refused (number 1), room) (served (length marks, equal_places marks), overlay room 0 marks)
+
+-- what the code answers, as numbers
+abbrev pub counts : Compared → ℕ × ℕ
+counts compared = (compared.places, compared.same)
 
 unfoldable pub compare : List ℕ → List ℕ → List ℕ → Answered (ℕ × ℕ) × List ℕ
 compare a b room = laid_by (marks_in a b) room

@@ -1,5 +1,4 @@
 -- Two logs compared, in the words of document 02, request (x).
 pub mod Compare
-pub mod Paper
 pub mod Claims
 pub mod Private

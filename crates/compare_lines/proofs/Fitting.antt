@@ -58,20 +58,8 @@ pub length-line : (word : List ℕ) (n : ℕ) → length (line word n) ≡ lengt
 unfolding line
 length-line word n = omega (arith, length-append word (decimal n ++ (10 ∷ [])), length-append (decimal n) (10 ∷ []))
 
--- the word of each mark
+-- the line of each mark
 module _ (m : ℕ) where
-  pub is_differ : m ≡ 1 → differ_word ≡ word_of m
-  unfolding word_of
-  is_differ e = rw (eq-eqb m 1 e)
-
-  pub is_only_a : (m ≡ 1 → ⊥) → m ≡ 2 → only_aWord ≡ word_of m
-  unfolding word_of
-  is_only_a h e = rw (ne_eqb m 1 h, eq-eqb m 2 e)
-
-  pub is_only_b : (m ≡ 1 → ⊥) → (m ≡ 2 → ⊥) → only_bWord ≡ word_of m
-  unfolding word_of
-  is_only_b h k = rw (ne_eqb m 1 h, ne_eqb m 2 k)
-
   -- its line, or none
   pub none_told : (n : ℕ) → m ≡ 0 → told m n ≡ []
   unfolding told
@@ -89,9 +77,6 @@ module _ (m : ℕ) where
       go true t = refl
       go false true = refl
       go false false = refl
-
-pub length-told : (m n : ℕ) → (m ≡ 0 → ⊥) → length (told m n) ≡ length (decimal n) + 8
-length-told m n h = ap length (sym (is_told m (word_of m) n h refl)) ∙ omega (arith, length-line (word_of m) n, seven m)
 
 -- nothing is laid
 pub fitted_none : (room : List ℕ) (place skip : ℕ) (text : List ℕ) → text ≡ [] → Fitted place room room place text skip

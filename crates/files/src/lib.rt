@@ -1,27 +1,25 @@
 // A file read whole into lent room, and what its programs write.
 #![tactic(auto)]
 
-ghost use Rattle.std.specs.Prelude.{◌≡◌, ◌≤◌, IfSome, IsErrAnd, length, take};
+ghost use Rattle.std.specs.Prelude.{◌≡◌, ◌≤◌, IfSome, IsErrAnd, OnOk, length, take};
 ghost use Rattle.std.specs.Bool.{OnTrue};
 ghost use Rattle.std.specs.Io.KnownBytes.{Appends, Consumes, IsAtEnd};
 ghost use Rattle.std.specs.IoError.{raw_os_error};
 ghost use Rattle.std.specs.Str.{IsUtf8};
 ghost use Rattle.files.specs.Failing.{AppendsLine};
 
+use arrayvec::ArrayVec;
 use std::env::Env;
-use std::fmt::Write as _;
 use std::fs::Files;
-use std::io::{Read, Write};
-use std::{fmt, fs, io};
+use std::io::{ErrorKind, Read, Write};
+use std::{fs, io};
 
-// Puts the argument of that number at the start of lent room, and answers its length: 0 where there is none, or one longer than the room.
-pub fn argument<E: Env>(env: &E, number: usize, room: &mut [u8]) -> usize
-    ensures { result ≤ length room.new }
+// Puts the argument of that number at the start of lent room, and answers it: nothing where there is none, or one longer than the room.
+pub fn argument<'a, E: Env>(env: &E, number: usize, room: &'a mut [u8]) -> &'a [u8]
+    ensures { length result.now ≤ length room.old }
 {
-    match env.arg(number, room) {
-        Ok(n) => n,
-        Err(_) => 0,
-    }
+    let n = env.arg(number, room).unwrap_or(0);
+    &room[..n]
 }
 
 // The system's number of the error that bytes are no text.
@@ -51,20 +49,18 @@ fn at_end<R: Read>(input: &mut R) -> bool
 // Reads the rest of an input to its end, 4 GiB of it at most, and says whether it could be read.
 fn read_on<R: Read>(input: &mut R) -> bool {
     let mut rest = [0u8; 4096];
-    let mut left: usize = 1_048_576;
-    while 0 < left {
-        let Ok(got) = input.read(&mut rest) else {
-            return false;
-        };
-        if got == 0 {
-            return true;
+    for _ in 0..1_048_576 {
+        match input.read(&mut rest) {
+            Ok(0) => return true,
+            Ok(_) => {}
+            Err(_) => return false,
         }
-        left -= 1;
     }
     true
 }
 
-// Reads until the room is full, the input ends or a read fails, and answers how many bytes it put at the room's start.
+// Reads until the room is full, the input ends or a read fails, and answers how many bytes it put at the room's start: the library's
+// read_exact does not say how many those are where the input ends.
 fn read_full<R: Read>(input: &mut R, room: &mut [u8]) -> usize
     ensures bound { result ≤ length room.new }
     ensures bytes { Consumes (R.remaining input.old) (R.remaining input.new) (take result room.new) }
@@ -82,93 +78,59 @@ fn read_full<R: Read>(input: &mut R, room: &mut [u8]) -> usize
     done
 }
 
-// How many bytes of a file there are in the room, and whether it was read to its end.
-#[derive(Clone, Copy)]
-pub struct Loaded {
-    pub length: usize,
-    pub ok: bool,
-}
-
-// Reads a file to its end. Of one that fills the room the first bytes are kept.
-pub fn load<R: Read>(input: &mut R, room: &mut [u8]) -> Loaded
-    ensures bound { result.length ≤ length room.new }
-    ensures bytes { OnTrue result.ok (IfSome (R.remaining input.old) (λ xs. take result.length room.new ≡ take (length room.new) xs)) }
+// Reads a file to its end, and answers its bytes in the room; of one that fills the room the first bytes are kept. None where it could not
+// be read to its end.
+pub fn load<'a, R: Read>(input: &mut R, room: &'a mut [u8]) -> Option<&'a [u8]>
+    ensures bound { IfSome result (λ bytes. length bytes.now ≤ length room.old) }
+    ensures bytes { IfSome result (λ bytes. IfSome (R.remaining input.old) (λ xs. bytes.now ≡ take (length room.old) xs)) }
 {
     let length = read_full(input, room);
-    if length < room.len() {
-        return Loaded {
-            length,
-            ok: at_end(input),
-        };
+    let ended = if length < room.len() {
+        at_end(input)
+    } else {
+        read_on(input)
+    };
+    if ended {
+        return Some(&room[..length]);
     }
-    Loaded {
-        length,
-        ok: read_on(input),
-    }
+    None
 }
 
-// Writes all of a text, or stops at the first write that fails or takes nothing; says whether all was written.
-pub fn write_all<W: Write>(to: &mut W, text: &[u8]) -> bool
-    ensures { OnTrue result (Appends (W.contents to.old) (W.contents to.new) text.now) }
+// Writes all of a text, or stops at the first write that fails or takes nothing. The library's write_all goes on after a write that was
+// interrupted, where this stops.
+pub fn write_all<W: Write>(to: &mut W, text: &[u8]) -> io::Result<()>
+    ensures { OnOk result (Appends (W.contents to.old) (W.contents to.new) text.now) }
 {
-    let mut done: usize = 0;
-    while done < text.len() {
-        let Ok(n) = to.write(&text[done..]) else {
-            return false;
-        };
+    let mut rest = text;
+    while !rest.is_empty() {
+        let n = to.write(rest)?;
         if n == 0 {
-            return false;
+            return Err(io::Error::from(ErrorKind::WriteZero));
         }
-        done += n;
+        rest = &rest[n..];
     }
-    true
-}
-
-// The first bytes of what is written to it.
-#[derive(Drop)]
-struct Line {
-    bytes: [u8; 128],
-    length: usize,
-}
-
-impl fmt::Write for Line {
-    fn write_str(&mut self, s: &str) -> fmt::Result {
-        for b in s.as_bytes() {
-            if self.length < 128 {
-                self.bytes[self.length] = *b;
-                self.length += 1;
-            }
-        }
-        Ok(())
-    }
+    Ok(())
 }
 
 // Where the last opening bracket of a text and the blank before it stand: the text's length where there is none.
 fn before_bracket(text: &[u8]) -> usize
     ensures { result ≤ length text.now }
 {
-    let mut at = text.len();
-    while 1 < at {
-        at -= 1;
-        if text[at] == b'(' {
-            return at - 1;
-        }
+    let bracket = text.iter().rposition(|b| *b == b'(');
+    match bracket {
+        Some(at) if at > 0 => at - 1,
+        _ => text.len(),
     }
-    text.len()
 }
 
-// Writes a line: what failed, a colon and the system's text of the error. An error of the system's says its number in brackets behind its
-// text, which is left out. Says whether all was written.
-pub fn fail<W: Write>(to: &mut W, what: &[u8], error: &io::Error) -> bool
-    ensures { OnTrue result (AppendsLine (W.contents to.old) (W.contents to.new) what.now) }
+// Writes a line: what failed, a colon and the system's text of the error, 128 bytes of it at most. An error of the system's says its number
+// in brackets behind its text, which is left out.
+pub fn fail<W: Write>(to: &mut W, what: &[u8], error: &io::Error) -> io::Result<()>
+    ensures { OnOk result (AppendsLine (W.contents to.old) (W.contents to.new) what.now) }
 {
-    let mut line = Line {
-        bytes: [0; 128],
-        length: 0,
-    };
-    let _ = write!(line, "{error}");
-    let all = &line.bytes[..];
-    let said = &all[..line.length.min(128)];
+    let mut text: ArrayVec<u8, 128> = ArrayVec::new();
+    let _ = write!(text, "{error}");
+    let said = text.as_slice();
     let end = match error.raw_os_error() {
         Some(_) => before_bracket(said),
         None => said.len(),
@@ -177,5 +139,30 @@ pub fn fail<W: Write>(to: &mut W, what: &[u8], error: &io::Error) -> bool
     let parted = write_all(to, b": ");
     let told = write_all(to, &said[..end]);
     let ended = write_all(to, b"\n");
-    named && parted && told && ended
+    named?;
+    parted?;
+    told?;
+    ended
+}
+
+// The log that the first argument names, whole, in lent room. Where it cannot be had, standard error says why, behind the program's name.
+pub fn first_log<'a>(rt: &HostRuntime, program: &[u8], room: &'a mut [u8]) -> Option<&'a [u8]>
+    ensures { IfSome result (λ log. length log.now ≤ length room.old) }
+{
+    let mut name = [0u8; 4096];
+    let name = argument(rt, 1, &mut name);
+    let mut log = match open(rt, name) {
+        Ok(log) => log,
+        Err(why) => {
+            let _ = write_all(&mut rt.stderr(), program);
+            let _ = fail(&mut rt.stderr(), b": the log cannot be opened", &why);
+            return None;
+        }
+    };
+    let loaded = load(&mut log, room);
+    if loaded.is_none() {
+        let _ = write_all(&mut rt.stderr(), program);
+        let _ = write_all(&mut rt.stderr(), b": the log cannot be read to its end\n");
+    }
+    loaded
 }

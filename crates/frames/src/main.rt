@@ -1,69 +1,47 @@
 // Reads request-side bytes from standard input and prints one line for each item, and a last line with the number of bytes read.
 #![tactic(auto)]
 
-ghost use Rattle.std.specs.Prelude.{◌≡◌, ◌-◌, ◌≤◌, true, length};
+ghost use Rattle.std.specs.Prelude.{◌≡◌, ◌-◌, ◌≤◌, IfOk, true, length};
 ghost use Rattle.receiver.specs.Record.{held, in_range};
 ghost use Rattle.frames.specs.Private.{ListsAll};
 
+use files::write_all;
 use lines::Listing;
-use receiver::Made;
-use shdlc::{Kind, Written};
-use std::io::{Read, Write};
+use shdlc::Kind;
+use std::io::Read;
 
-// Writes all of a text, or stops at the first write that takes nothing; says whether all was written.
-fn write_text<W: Write>(to: &mut W, text: &[u8]) -> bool {
-    let mut done: usize = 0;
-    while done < text.len() {
-        let Ok(n) = to.write(&text[done..]) else {
-            return false;
-        };
-        if n == 0 {
-            return false;
-        }
-        done += n;
-    }
-    true
-}
+// Standard output could not be written, as standard error was told.
+#[derive(Clone, Copy, Debug, PartialEq, Eq)]
+struct Unwritten;
 
-fn print(rt: &HostRuntime, text: &[u8]) -> bool {
-    if write_text(&mut rt.stdout(), text) {
-        return true;
+fn print(rt: &HostRuntime, text: &[u8]) -> Result<(), Unwritten> {
+    if write_all(&mut rt.stdout(), text).is_ok() {
+        return Ok(());
     }
-    write_text(
+    let _ = write_all(
         &mut rt.stderr(),
         b"frames: standard output cannot be written\n",
     );
-    false
+    Err(Unwritten)
 }
 
-// Where the next line goes, and whether all that had to be written was.
-#[derive(Clone, Copy)]
-struct Room {
-    place: usize,
-    ok: bool,
-}
-
-// Prints what the room holds where it may not hold another line.
-fn make_room(rt: &HostRuntime, out: &[u8], filled: usize) -> Room
+// Prints what the room holds where it may not hold another line, and answers where the next line goes.
+fn make_room(rt: &HostRuntime, out: &[u8], filled: usize) -> Result<usize, Unwritten>
     requires { filled ≤ length out.now }
-    ensures { (result.place ≤ length out.now) × (24 ≤ length out.now - filled → result.place ≡ filled) × (result.ok ≡ true → 24 ≤ length out.now → 24 ≤ length out.now - result.place) }
+    ensures { IfOk result (λ place. (place ≤ length out.now) × (24 ≤ length out.now - filled → place ≡ filled) × (24 ≤ length out.now → 24 ≤ length out.now - place)) }
 {
     if out.len() - filled < 24 {
-        let ok = print(rt, &out[..filled]);
-        return Room { place: 0, ok };
+        print(rt, &out[..filled])?;
+        return Ok(0);
     }
-    Room {
-        place: filled,
-        ok: true,
-    }
+    Ok(filled)
 }
 
-// How far the listing is, where the room's text ends, and whether all that had to be written was.
+// How far the listing is, and where the room's text ends.
 #[derive(Clone, Copy)]
 struct Shown {
     listing: Listing,
     filled: usize,
-    ok: bool,
 }
 
 // Lists all of a piece. Where the room holds its lines, they stand in it; else the last of them do, and those before them are printed.
@@ -73,43 +51,25 @@ fn list_piece(
     store: &mut [u8],
     piece: &[u8],
     out: &mut [u8],
-) -> Shown
+) -> Result<Shown, Unwritten>
     requires { (length piece.now ≤ from.left) × (24 ≤ length out.old) × (in_range (held from.receiver store.old) ≡ true) }
-    ensures { ListsAll from store.old piece.now out.old result store.new out.new }
+    ensures { IfOk result (λ shown. ListsAll from store.old piece.now out.old shown store.new out.new) }
 {
     let mut l = from;
     let mut at: usize = 0;
     let mut filled: usize = 0;
+    // A turn passes the bytes that the room has lines for.
     while at < piece.len() {
-        let room = make_room(rt, out, filled);
-        if !room.ok {
-            return Shown {
-                listing: l,
-                filled: room.place,
-                ok: false,
-            };
-        }
-        let more = lines::fill(l, store, &piece[at..], out, room.place);
+        let place = make_room(rt, out, filled)?;
+        let more = lines::fill(l, store, &piece[at..], out, place);
         let next = more.listing;
         let taken = more.taken;
-        let said = more.said;
-        // The record is within its ranges and the room has 24 bytes, so the call is not refused: what stands here is not reached.
-        let Written::Done(end) = said else {
-            return Shown {
-                listing: next,
-                filled: 0,
-                ok: true,
-            };
-        };
+        let end = more.said.unwrap();
         l = next;
         at += taken;
         filled = end;
     }
-    Shown {
-        listing: l,
-        filled,
-        ok: true,
-    }
+    Ok(Shown { listing: l, filled })
 }
 
 // Reads once, at most as many bytes as are asked for, and answers how many came: 0 at the input's end.
@@ -120,7 +80,7 @@ fn read_some(rt: &HostRuntime, piece: &mut [u8]) -> usize
     match input.read(piece) {
         Ok(n) => n,
         Err(_) => {
-            write_text(&mut rt.stderr(), b"frames: standard input cannot be read\n");
+            let _ = write_all(&mut rt.stderr(), b"frames: standard input cannot be read\n");
             0
         }
     }
@@ -131,7 +91,7 @@ fn main(rt: HostRuntime) {
     let mut store = [0u8; 260];
     let mut piece = [0u8; 416];
     let mut out = [0u8; 880];
-    let Made::Fresh(fresh) = receiver::fresh(Kind::Request, &mut store) else {
+    let Ok(fresh) = receiver::fresh(Kind::Request, &mut store) else {
         return;
     };
     let mut l = lines::begin(fresh);
@@ -141,19 +101,17 @@ fn main(rt: HostRuntime) {
         if n == 0 {
             break;
         }
-        let shown = list_piece(&rt, l, &mut store, &piece[..n], &mut out);
+        let Ok(shown) = list_piece(&rt, l, &mut store, &piece[..n], &mut out) else {
+            return;
+        };
         let next = shown.listing;
         let end = shown.filled;
-        let ok = shown.ok;
-        if !ok {
-            return;
-        }
-        if !print(&rt, &out[..end]) {
+        if print(&rt, &out[..end]).is_err() {
             return;
         }
         l = next;
     }
-    if let Written::Done(n) = lines::end(l, &mut out) {
-        print(&rt, &out[..n]);
+    if let Ok(n) = lines::end(l, &mut out) {
+        let _ = print(&rt, &out[..n]);
     }
 }

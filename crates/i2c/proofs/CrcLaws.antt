@@ -1,11 +1,10 @@
 -- Eight bit steps at once and undone, and the CRC along a list, one byte further at a time. Assumes nothing.
 use mathlib.Core.Path.{◌≡◌, refl, sym, ap, ◌∙◌}
 use mathlib.Core.List.{List, [], ◌∷◌}
-use Prim.Native.Nat.{ℕ, ◌+◌, ◌*◌, ◌/◌, ◌%◌, ◌<◌, ◌≤◌}
+use Prim.Native.Nat.{ℕ, ◌*◌, ◌/◌, ◌%◌, ◌<◌}
 use lib.Bits.{bit_xor, xor_lt}
-use lib.ListN.{length, get_or, drop}
-use Rattle.refusal.proofs.Rest.{rest_here, rest_end}
 use Rattle.refusal.proofs.Values.{same_at}
+use Rattle.std.specs.List.{fold}
 use Rattle.i2c.specs.Crc.{bit_step, bit_steps, byte_step, crc_of}
 use Rattle.i2c.proofs.Xor.{xor_cancel}
 use Rattle.i2c.proofs.Linear.{steps_lt}
@@ -44,11 +43,8 @@ unfolding crc_of
 start-one s t h l hs ht hh hl e =
     byte_one s t h hs ht hh (byte_one (byte_step s h) (byte_step t h) l (byte_lt s h hs hh) (byte_lt t h ht hh) hl e)
 
--- a CRC along a list, a step of the register for each byte: what the register c gave, r gives one byte further
-module _ (crc : ℕ → List ℕ → ℕ) (step : ℕ → ℕ → ℕ) (one : (c b : ℕ) (bs : List ℕ) → crc c (b ∷ bs) ≡ crc (step c b) bs) (none : (c : ℕ) → crc c [] ≡ c) where
-  pub further : (c r : ℕ) (bs : List ℕ) (i : ℕ) {x : ℕ} → i < length bs → r ≡ step c (get_or bs i 0) → crc c (drop i bs) ≡ x → crc r (drop (i + 1) bs) ≡ x
-  further c r bs i h e p = ap (λ (n : ℕ). crc n (drop (i + 1) bs)) e ∙ sym (one c (get_or bs i 0) (drop (i + 1) bs)) ∙ rw (rest_here bs i h) at p
-
-  -- nothing is left
-  pub at-end : (c : ℕ) (bs : List ℕ) (i : ℕ) {x : ℕ} → length bs ≤ i → crc c (drop i bs) ≡ x → c ≡ x
-  at-end c bs i h p = sym (none c) ∙ rw (rest_end bs i h) at p
+-- the CRC is a fold of the bytes
+pub crc_fold : (c : ℕ) (bs : List ℕ) → fold byte_step c bs ≡ crc_of c bs
+unfolding crc_of
+crc_fold c [] = refl
+crc_fold c (b ∷ bs) = crc_fold (byte_step c b) bs

@@ -5,6 +5,7 @@ use Prim.Native.Nat.{ℕ, suc, ◌<◌}
 use lib.Bits.{bit_xor, xor_lt}
 use lib.ListN.{get_or}
 use Rattle.refusal.proofs.Values.{values, same_at}
+use Rattle.std.specs.List.{fold}
 use Rattle.i2c.specs.Crc.{bit_steps, byte_step, crc_of}
 use Rattle.i2c.specs.Engines.{Steps, table_step, table_crc_of, EnginesAgree}
 use Rattle.i2c.proofs.CrcLaws.{byte_lt}
@@ -33,3 +34,8 @@ unfolding crc_of
 pair_agrees table right start h l u v hs hh hl e f =
     let a : u ≡ byte_step start h = e ∙ steps_agree table right start h hs hh in
     f ∙ ap (λ (c : ℕ). table_step table c l) a ∙ steps_agree table right (byte_step start h) l (byte_lt start h hs hh) hl
+
+pub table_fold : (table : List ℕ) (c : ℕ) (bs : List ℕ) → fold (table_step table) c bs ≡ table_crc_of table c bs
+unfolding table_crc_of
+table_fold table c [] = refl
+table_fold table c (b ∷ bs) = table_fold table (table_step table c b) bs

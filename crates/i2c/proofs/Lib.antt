@@ -3,7 +3,6 @@ pub mod Engines
 pub mod PairLaws
 pub mod WordLaws
 pub mod WordAnswers
-pub mod CommandAnswers
 pub mod RegisterLaws
 pub mod Xor
 pub mod Linear

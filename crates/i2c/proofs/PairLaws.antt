@@ -1,19 +1,20 @@
 -- The table of two steps, and the CRC along a list two bytes at a time. Assumes nothing.
 use mathlib.Core.Path.{◌≡◌, refl, sym, ap, ap₂, ◌∙◌, subst}
 use mathlib.Core.List.{List, [], ◌∷◌}
-use Prim.Native.Nat.{ℕ, suc, ◌+◌, ◌<◌, ◌≤◌}
+use Prim.Native.Nat.{ℕ, zero, suc, ◌+◌, ◌*◌, ◌/◌, ◌<◌, ◌≤◌}
 use native.Mathlib.Nat.{lt_irrefl}
-use native.Mathlib.Numerals.{towards_suc}
 use native.Mathlib.Omega.{arith}
 use lib.Bits.{bit_xor, xor_lt}
 use lib.ListN.{length, get_or, drop, set}
-use lib.Seq.{drop-cons, get_or-set_same, get_or-set_other}
+use Rattle.std.proofs.lemmas.List.{get_or-drop}
+use lib.Seq.{get_or-set_same, get_or-set_other}
 use borrow.Author.Count.{below_more}
+use Rattle.std.specs.List.{fold}
+use Rattle.std.specs.Simd.{first_chunks}
 use Rattle.i2c.specs.Crc.{bit_steps, byte_step, crc_of}
-use Rattle.i2c.specs.Engines.{table_step, Steps}
-use Rattle.i2c.proofs.CrcLaws.{further, at-end}
+use Rattle.i2c.specs.Engines.{table_crc_of, Steps}
 use Rattle.i2c.proofs.Linear.{steps_lt, steps_xor}
-use Rattle.i2c.proofs.Engines.{steps_agree}
+use Rattle.i2c.proofs.Engines.{engines_agree}
 
 module _ (table : List ℕ) (right : Steps 8 table) where
   pub entry_lt : (x : ℕ) → x < 256 → get_or table x 0 < 256
@@ -33,14 +34,6 @@ module _ (table : List ℕ) (right : Steps 8 table) where
       let x : bit_xor c a < 256 = xor_lt 8 c a hc ha in
       ap₂ bit_xor (both (bit_xor c a) x) (right b hb) ∙ sym (steps_xor 8 (bit_steps 8 (bit_xor c a)) b (steps_lt 8 (bit_xor c a) x) hb)
 
-  -- the last byte alone
-  pub last-alone : (c r : ℕ) (bs : List ℕ) (i : ℕ) {x : ℕ} → c < 256 → get_or bs i 0 < 256 → i < length bs → length bs ≤ i + 1
-      → r ≡ table_step table c (get_or bs i 0) → crc_of c (drop i bs) ≡ x → r ≡ x
-  unfolding crc_of
-  last-alone c r bs i hc hb h m e p =
-      at-end crc_of byte_step (λ c b bs. refl) (λ c. refl) r bs (i + 1) m
-      (further crc_of byte_step (λ c b bs. refl) (λ c. refl) c r bs i h (e ∙ steps_agree table right c (get_or bs i 0) hc hb) p)
-
 -- the entries below i are made, and that at i too
 pub made_more : (two : List ℕ) (i v : ℕ) → length two ≡ 256 → i < 256 → v ≡ bit_steps 16 i → ((x : ℕ) → x < i → get_or two x 0 ≡ bit_steps 16 x)
     → (x : ℕ) → x < i + 1 → get_or (set two i v) x 0 ≡ bit_steps 16 x
@@ -49,10 +42,25 @@ made_more two i v l h e all =
     (λ x m. get_or-set_other two i x v 0 (λ q. lt_irrefl i (subst (λ (k : ℕ). k < i) q m)) ∙ all x m)
     (get_or-set_same two i v 0 (omega (arith, l, h)) ∙ e)
 
-two_here : (bs : List ℕ) (i : ℕ) → i + 1 < length bs → drop i bs ≡ get_or bs i 0 ∷ get_or bs (i + 1) 0 ∷ drop (i + 2) bs
-two_here bs i h = simp towards_suc (drop-cons bs i 0 (omega arith) ∙ ap (λ (l : List ℕ). get_or bs i 0 ∷ l) (drop-cons bs (suc i) 0 (omega arith)))
+-- two bytes at a time, and what is left
+abbrev pub pair_of : ℕ → List ℕ → ℕ
+pair_of c pair = crc_of c (get_or pair 0 0 ∷ get_or pair 1 0 ∷ [])
 
-pub two_further : (c r : ℕ) (bs : List ℕ) (i : ℕ) {x : ℕ} → i + 1 < length bs → r ≡ crc_of c (get_or bs i 0 ∷ get_or bs (i + 1) 0 ∷ []) → crc_of c (drop i bs) ≡ x
-    → crc_of r (drop (i + 2) bs) ≡ x
+pairs_fold : (k c : ℕ) (bs : List ℕ) → k * 2 ≤ length bs → crc_of (fold pair_of c (first_chunks 2 k bs)) (drop (k * 2) bs) ≡ crc_of c bs
 unfolding crc_of
-two_further c r bs i h e p = ap (λ (n : ℕ). crc_of n (drop (i + 2) bs)) e ∙ rw (two_here bs i h) at p
+pairs_fold zero c bs h = refl
+pairs_fold (suc k) c [] h = absurd (omega arith)
+pairs_fold (suc k) c (a ∷ []) h = absurd (omega arith)
+pairs_fold (suc k) c (a ∷ b ∷ bs) h =
+    let e : suc k * 2 ≡ suc (suc (k * 2)) = omega arith in
+    rw e (pairs_fold k (byte_step (byte_step c a) b) bs (omega arith))
+
+pub by_pairs : (table : List ℕ) → Steps 8 table → (c x r : ℕ) (bs rest : List ℕ) (pairs : List (List ℕ)) → x < 256 → ((i : ℕ) → get_or bs i 0 < 256)
+    → pairs ≡ first_chunks 2 (length bs / 2) bs → rest ≡ drop (length bs / 2 * 2) bs → x ≡ fold pair_of c pairs → r ≡ table_crc_of table x rest → r ≡ crc_of c bs
+by_pairs table right c x r bs rest pairs hx hb e f g h =
+    let n : ℕ = length bs / 2 * 2 in
+    let p : table_crc_of table x rest ≡ crc_of x rest = engines_agree table right x rest hx (λ i. rw (f, get_or-drop) (hb (n + i))) in
+    let q : crc_of x rest ≡ crc_of c bs = rw (f, g, e) (pairs_fold (length bs / 2) c bs (omega arith)) in
+    h ∙ p ∙ q
+
+pub ruleset pair_is = (pair-steps)

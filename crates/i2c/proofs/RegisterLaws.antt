@@ -5,7 +5,8 @@ use Prim.Native.Nat.{ℕ, zero, suc, ◌+◌, ◌-◌, ◌*◌, ◌/◌, ◌%◌
 use native.Mathlib.Nat.{div-div-eq-div-mul, pow-succ', div-one, mod-lt, mul_assoc, le_of_suc-le-suc, not-suc-le-zero}
 use native.Mathlib.Omega.{arith}
 use lib.Pow.{pow-add}
-use borrow.Author.Tests.{le-leb, lt-leb}
+use borrow.Author.Tests.{leb-true}
+use lib.Dec.{leb}
 use Rattle.refusal.specs.Refusals.{number, served, refused}
 use Rattle.i2c.specs.Register.{bit, of_bits, in_field, with_field, edit}
 
@@ -38,25 +39,24 @@ own_bits n x = of_bits_lem n x (λ k. bit k x) (λ k. refl)
 bits_above : (n m x : ℕ) → of_bits n (λ k. bit (m + k) x) + 2 ^ n * (x / 2 ^ m / 2 ^ n) ≡ x / 2 ^ m
 bits_above n m x = of_bits_lem n (x / 2 ^ m) (λ k. bit (m + k) x) (λ k. bit_shift m k x)
 
--- a field out of range, and one in it
-pub edit_refused : (low greatest f x : ℕ) → greatest < f → refused (number 12) ≡ edit low greatest f x
+-- it edits the register x: what lies below the field, the field, and what lies above it
+edited : (low greatest f x y : ℕ) → (f ≤ greatest → y ≡ with_field low f x) → cond (leb f greatest) (served y) (refused (number 12)) ≡ edit low greatest f x
 unfolding edit
-edit_refused low greatest f x h = rw (lt-leb f greatest h)
+edited low greatest f x y same = go (leb f greatest) refl
+  where
+    go : (t : Bool) → leb f greatest ≡ t → cond t (served y) (refused (number 12)) ≡ cond t (served (with_field low f x)) (refused (number 12))
+    go true e = ap served (same (leb-true f greatest e))
+    go false e = refl
 
-edit_served : (low greatest f x y : ℕ) → f ≤ greatest → y ≡ with_field low f x → served y ≡ edit low greatest f x
-unfolding edit
-edit_served low greatest f x y h e = rw (le-leb f greatest h, e)
-
--- the code's arithmetic with the register x: what lies below the field, the field, and what lies above it
-pub user_served : (f x : ℕ) → f ≤ 4 → x < 2 ^ 16 → served (x - x / 16 % 8 * 16 + f * 16) ≡ edit 4 4 f x
+pub user_edited : (f x : ℕ) → x < 65536 → cond (leb f 4) (served (x - x / 16 % 8 * 16 + f * 16)) (refused (number 12)) ≡ edit 4 4 f x
 unfolding with_field of_bits in_field
-user_served f x h g =
-    edit_served 4 4 f x (x - x / 16 % 8 * 16 + f * 16) h (omega (arith, own_bits 4 x, own_bits 3 f, bits_above 9 7 x))
+user_edited f x g =
+    edited 4 4 f x (x - x / 16 % 8 * 16 + f * 16) (λ h. omega (arith, own_bits 4 x, own_bits 3 f, bits_above 9 7 x))
 
-pub advanced_served : (f x : ℕ) → f ≤ 7 → x < 2 ^ 16 → served (x - x / 512 % 8 * 512 + f * 512) ≡ edit 9 7 f x
+pub advanced_edited : (f x : ℕ) → x < 65536 → cond (leb f 7) (served (x - x / 512 % 8 * 512 + f * 512)) (refused (number 12)) ≡ edit 9 7 f x
 unfolding with_field of_bits in_field
-advanced_served f x h g =
-    edit_served 9 7 f x (x - x / 512 % 8 * 512 + f * 512) h (omega (arith, own_bits 9 x, own_bits 3 f, bits_above 4 12 x))
+advanced_edited f x g =
+    edited 9 7 f x (x - x / 512 % 8 * 512 + f * 512) (λ h. omega (arith, own_bits 9 x, own_bits 3 f, bits_above 4 12 x))
 
 -- bit k of the number that bits make is the kth
 bit_of_bits : (n : ℕ) (f : ℕ → ℕ) → ((k : ℕ) → f k < 2) → (k : ℕ) → k < n → bit k (of_bits n f) ≡ f k

@@ -10,9 +10,8 @@ use Rattle.refusal.specs.Room.{overlay, emit}
 use Rattle.refusal.proofs.Room.{emit_refused, emit_served}
 use Rattle.i2c.specs.Answer.{refuse}
 use Rattle.i2c.specs.Word.{bytes_of, words_of, first_wrong, paper_checked, no_words, read_checked, read_words, write_words}
-use Rattle.i2c.specs.declared.word.Checked.{Checked}
-use Rattle.i2c.specs.declared.word.Checked.TheVariants.{Good, WrongAt}
-use Rattle.i2c.proofs.WordLaws.{words_count, bytes_count}
+use Rattle.std.specs.Prelude.{Option, Some, None}
+use Rattle.i2c.proofs.WordLaws.{words_count, bytes_count, three_stored}
 
 -- reading words
 module _ (s : ℕ) (bs lent : List ℕ) where
@@ -25,16 +24,16 @@ module _ (s : ℕ) (bs lent : List ℕ) where
     unfolding read_words no_words
     read_ragged h = rw (ne_eqb _ _ some, ne_eqb _ _ h)
 
-    module _ (whole : length bs % 3 ≡ 0) (r : Checked) (checked : paper_checked r ≡ first_wrong s bs) where
+    module _ (whole : length bs % 3 ≡ 0) (r : Option ℕ) (checked : paper_checked r ≡ first_wrong s bs) where
       judged : read_checked (paper_checked r) bs lent ≡ read_words s bs lent
       unfolding read_words no_words
       judged = rw (ne_eqb _ _ some, eq-eqb _ _ whole, ← checked)
 
-      pub read-wrong : (k : ℕ) → r ≡ WrongAt k → refuse (17 carrying k) lent ≡ read_words s bs lent
+      pub read-wrong : (k : ℕ) → r ≡ Some k → refuse (17 carrying k) lent ≡ read_words s bs lent
       unfolding read_checked
       read-wrong k e = rw e at judged
 
-      module _ (good : r ≡ Good) where
+      module _ (good : r ≡ None) where
         stored : emit (words_of bs) lent ≡ read_words s bs lent
         unfolding read_checked
         stored = rw good at judged
@@ -46,17 +45,17 @@ module _ (s : ℕ) (bs lent : List ℕ) where
         read_all h e = rw (e, ← words_count bs) (sym (emit_served (words_of bs) lent (rw words_count h)) ∙ stored)
 
 -- reading three words
-module _ (s : ℕ) (bs lent : List ℕ) (nine : length bs ≡ 9) (r : Checked) (checked : paper_checked r ≡ first_wrong s bs) where
+module _ (s : ℕ) (bs lent : List ℕ) (nine : length bs ≡ 9) (r : Option ℕ) (checked : paper_checked r ≡ first_wrong s bs) where
   some : length bs ≡ 0 → ⊥
   some z = omega (arith, nine, z)
 
   whole : length bs % 3 ≡ 0
   whole = rw nine
 
-  pub three_wrong : (k : ℕ) → r ≡ WrongAt k → refuse (17 carrying k) lent ≡ read_words s bs lent
+  pub three_wrong : (k : ℕ) → r ≡ Some k → refuse (17 carrying k) lent ≡ read_words s bs lent
   three_wrong = read-wrong s bs lent some whole r checked
 
-  module _ (good : r ≡ Good) where
+  module _ (good : r ≡ None) where
     pub three_no_room : length lent < 3 → refuse (number 1) lent ≡ read_words s bs lent
     three_no_room h = read_no_room s bs lent some whole r checked good (rw nine h)
 
@@ -81,3 +80,9 @@ module _ (s : ℕ) (ws lent : List ℕ) (some : length ws ≡ 0 → ⊥) where
   pub write_all : {last : List ℕ} → length ws ≤ length lent / 3 → last ≡ overlay lent 0 (bytes_of s ws) → (served (length ws * 3), last) ≡ write_words s ws lent
   write_all h e =
       rw (e, ← bytes_count s ws) (sym (emit_served (bytes_of s ws) lent (omega (arith, bytes_count s ws))) ∙ write_some s ws lent some)
+
+pub ruleset three_read = (three_no_room, three_all, three_stored)
+
+pub ruleset words_read = (read-empty, read_ragged, read_no_room, words_count)
+
+pub ruleset words_written = (write_none_lem, write_no_room)

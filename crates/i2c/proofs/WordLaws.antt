@@ -5,13 +5,18 @@ use Prim.Native.Nat.{ℕ, suc, ◌+◌, ◌*◌, ◌/◌, ◌%◌, ◌<◌, ◌�
 use native.Mathlib.Numerals.{towards_suc, add-one, add-two, add-three}
 use native.Mathlib.Nat.{zero-add}
 use native.Mathlib.Omega.{arith}
-use lib.ListN.{length, get_or, drop, set, length-drop}
+use lib.ListN.{length, get_or, drop, set, length-drop, drop_of_length-le}
 use lib.Seq.{drop-cons, sets, sets-eq}
 use borrow.Author.Tests.{eq-eqb, ne_eqb}
+use Rattle.std.specs.Prelude.{Bool, true, false, cond, not, zero, map, Option, Some}
+use Rattle.std.specs.List.{position, position_from}
+use Rattle.std.specs.Simd.{first_chunks}
+use Rattle.std.proofs.lemmas.Iterator.Adapters.{position_from-zero}
+use lib.Dec.{eqb}
 use Rattle.refusal.specs.Room.{overlay}
 use Rattle.refusal.proofs.Rest.{rest_here, rest_end}
 use Rattle.i2c.specs.Crc.{crc_of}
-use Rattle.i2c.specs.Word.{word_bytes, bytes_of, words_of, Check, all_good, wrong_at, check_word, later, or_else, first_wrong}
+use Rattle.i2c.specs.Word.{word_bytes, bytes_of, words_of, Check, all_good, wrong_at, check_word, later, or_else, first_wrong, paper_checked}
 
 -- a word at a place, and the rest
 pub three : (bs : List ℕ) (a : ℕ) → a + 2 < length bs → drop a bs ≡ get_or bs a 0 ∷ get_or bs (a + 1) 0 ∷ get_or bs (a + 2) 0 ∷ drop (a + 3) bs
@@ -92,22 +97,55 @@ module _ (s : ℕ) (bs : List ℕ) (nine : length bs ≡ 9) (r : ℕ) (e : r ≡
       pub three_good : v ≡ get_or bs 8 0 → all_good ≡ first_wrong s bs
       three_good t = check_end s bs 9 3 (check_more s bs 6 2 v g past_second (omega (arith, nine)) t) (omega (arith, nine))
 
--- the store of words: one more, at the end
-words_cons : (bs : List ℕ) (a : ℕ) → a + 2 < length bs → words_of (drop a bs) ≡ (get_or bs a 0 * 256 + get_or bs (a + 1) 0) ∷ words_of (drop (a + 3) bs)
+-- a word whose CRC is wrong, as the code looks for it: three bytes
+abbrev pub is_wrong : ℕ → List ℕ → Bool
+is_wrong s w = not (eqb (crc_of s (get_or w 0 0 ∷ get_or w 1 0 ∷ [])) (get_or w 2 0))
+
+-- the first chunk that is a wrong word is the first wrong word
+wrong_from : (s i k : ℕ) (bs : List ℕ) → k * 3 ≤ length bs → length bs < k * 3 + 3
+    → paper_checked (position_from (is_wrong s) i (first_chunks 3 k bs)) ≡ after i (first_wrong s bs)
+unfolding first_wrong check_word
+wrong_from s i zero bs h m = sym (ap (after i) (none_wrong s bs (omega arith)))
+wrong_from s i (suc k) [] h m = absurd (omega arith)
+wrong_from s i (suc k) (a ∷ []) h m = absurd (omega arith)
+wrong_from s i (suc k) (a ∷ b ∷ []) h m = absurd (omega arith)
+wrong_from s i (suc k) (a ∷ b ∷ c ∷ bs) h m = go (eqb (crc_of s (a ∷ b ∷ [])) c) (wrong_from s (i + 1) k bs (omega arith) (omega arith))
+  where
+    go : (t : Bool) → paper_checked (position_from (is_wrong s) (i + 1) (first_chunks 3 k bs)) ≡ after (i + 1) (first_wrong s bs)
+        → paper_checked (cond (not t) (Some i) (position_from (is_wrong s) (i + 1) (first_chunks 3 k bs)))
+        ≡ after i (or_else (cond t all_good (wrong_at 0)) (later (first_wrong s bs)))
+    go true e = e ∙ sym (after-later i (first_wrong s bs))
+    go false e = ap wrong_at (omega arith)
+
+pub wrong_found : (s : ℕ) (bs : List ℕ) (chunks : List (List ℕ)) (r : Option ℕ) → chunks ≡ first_chunks 3 (length bs / 3) bs
+    → r ≡ position (is_wrong s) chunks → paper_checked r ≡ first_wrong s bs
+wrong_found s bs chunks r e f =
+    ap paper_checked (f ∙ position_from-zero (is_wrong s) chunks)
+    ∙ rw e (wrong_from s 0 (length bs / 3) bs (omega arith) (omega arith))
+    ∙ after_none (first_wrong s bs)
+
+-- the store of words: each chunk of three bytes holds one
+abbrev pub word_in : List ℕ → ℕ
+word_in w = get_or w 0 0 * 256 + get_or w 1 0
+
+words_chunks : (k : ℕ) (bs : List ℕ) → k * 3 ≤ length bs → length bs < k * 3 + 3 → map word_in (first_chunks 3 k bs) ≡ words_of bs
 unfolding words_of
-words_cons bs a h = rw (three bs a h)
+words_chunks zero bs h m = sym (no_words_lem bs (omega arith))
+words_chunks (suc k) [] h m = absurd (omega arith)
+words_chunks (suc k) (a ∷ []) h m = absurd (omega arith)
+words_chunks (suc k) (a ∷ b ∷ []) h m = absurd (omega arith)
+words_chunks (suc k) (a ∷ b ∷ c ∷ bs) h m = ap (λ (l : List ℕ). (a * 256 + b) ∷ l) (words_chunks k bs (omega arith) (omega arith))
 
-words_more : (bs out : List ℕ) (a k r : ℕ) {x : List ℕ} → a + 2 < length bs → r ≡ get_or bs a 0 * 256 + get_or bs (a + 1) 0
-    → sets out k (words_of (drop a bs)) ≡ x → sets (set out k r) (k + 1) (words_of (drop (a + 3) bs)) ≡ x
-words_more bs out a k r h e p = rw (add-one, e) (rw (words_cons bs a h) at p)
+pub words_in : (bs : List ℕ) (chunks : List (List ℕ)) → chunks ≡ first_chunks 3 (length bs / 3) bs → map word_in chunks ≡ words_of bs
+words_in bs chunks e = rw e (words_chunks (length bs / 3) bs (omega arith) (omega arith))
 
--- the same, with the next places by their own names
-pub word_stored : (bs out : List ℕ) (a k r b n : ℕ) {x : List ℕ} → a + 2 < length bs → r ≡ get_or bs a 0 * 256 + get_or bs (a + 1) 0 → b ≡ a + 3 → n ≡ k + 1
-    → sets out k (words_of (drop a bs)) ≡ x → sets (set out k r) n (words_of (drop b bs)) ≡ x
-word_stored bs out a k r b n h e p q inv = rw (p, q) (words_more bs out a k r h e inv)
+-- one word more is stored
+pub word_stored : (chunks : List (List ℕ)) (out : List ℕ) (k r : ℕ) {x : List ℕ} → k < length chunks → r ≡ word_in (get_or chunks k [])
+    → sets out k (map word_in (drop k chunks)) ≡ x → sets (set out k r) (k + 1) (map word_in (drop (k + 1) chunks)) ≡ x
+word_stored chunks out k r h e p = rw (add-one, e) (rw (drop-cons chunks k [] h) at p)
 
-pub words-end : (bs out : List ℕ) (a k : ℕ) {x : List ℕ} → length bs ≤ a + 2 → sets out k (words_of (drop a bs)) ≡ x → out ≡ x
-words-end bs out a k h p = rw (no_words_lem (drop a bs) (short bs a h)) at p
+pub words_end : (chunks : List (List ℕ)) (out : List ℕ) (k : ℕ) {x : List ℕ} → length chunks ≤ k → sets out k (map word_in (drop k chunks)) ≡ x → out ≡ x
+words_end chunks out k h p = rw (drop_of_length-le chunks h) at p
 
 -- the store of bytes: one word more, at the end
 bytes_cons : (s : ℕ) (ws : List ℕ) (i : ℕ) → i < length ws → bytes_of s (drop i ws)
@@ -115,14 +153,18 @@ bytes_cons : (s : ℕ) (ws : List ℕ) (i : ℕ) → i < length ws → bytes_of 
 unfolding bytes_of word_bytes
 bytes_cons s ws i h = rw (rest_here ws i h)
 
-pub bytes-more : (s : ℕ) (ws out : List ℕ) (i a u v r : ℕ) {x : List ℕ} → i < length ws → u ≡ get_or ws i 0 / 256 → v ≡ get_or ws i 0 % 256
-    → r ≡ crc_of s (u ∷ v ∷ []) → sets out a (bytes_of s (drop i ws)) ≡ x
-    → sets (set (set (set out a u) (a + 1) v) (a + 2) r) (a + 3) (bytes_of s (drop (i + 1) ws)) ≡ x
-bytes-more s ws out i a u v r h e f g p = rw (g, e, f) (rw (add-three, add-two, add-one a) (rw (bytes_cons s ws i h) at p))
+pub bytes-more : (s : ℕ) (ws out two : List ℕ) (i r : ℕ) {x : List ℕ} → i < length ws → get_or ws i 0 < 65536
+    → two ≡ get_or ws i 0 / 256 % 256 ∷ get_or ws i 0 % 256 ∷ [] → r ≡ crc_of s (get_or two 0 0 ∷ get_or two 1 0 ∷ [])
+    → sets out (3 * i) (bytes_of s (drop i ws)) ≡ x
+    → sets (set (set (set out (3 * i) (get_or two 0 0)) (3 * i + 1) (get_or two 1 0)) (3 * i + 2) r) (3 * (i + 1)) (bytes_of s (drop (i + 1) ws)) ≡ x
+bytes-more s ws out two i r h m e g p =
+    let n : 3 * (i + 1) ≡ 3 * i + 3 = omega arith in
+    let d : get_or ws i 0 / 256 % 256 ≡ get_or ws i 0 / 256 = omega arith in
+    rw (n, g, e, d) (rw (add-three, add-two, add-one (3 * i)) (rw (bytes_cons s ws i h) at p))
 
-pub bytes-end : (s : ℕ) (ws out : List ℕ) (i a : ℕ) {x : List ℕ} → length ws ≤ i → sets out a (bytes_of s (drop i ws)) ≡ x → out ≡ x
+pub bytes-end : (s : ℕ) (ws out : List ℕ) (i : ℕ) {x : List ℕ} → length ws ≤ i → sets out (3 * i) (bytes_of s (drop i ws)) ≡ x → out ≡ x
 unfolding bytes_of
-bytes-end s ws out i a h p = rw (rest_end ws i h) at p
+bytes-end s ws out i h p = rw (rest_end ws i h) at p
 
 -- stores one after the other from the start: the new places over the old
 pub overlay-sets : (vs l : List ℕ) → length vs ≤ length l → sets l 0 vs ≡ overlay l 0 vs
@@ -137,20 +179,23 @@ words_count (h ∷ []) = refl
 words_count (h ∷ l ∷ []) = refl
 words_count (h ∷ l ∷ c ∷ bs) = omega (arith, words_count bs)
 
-pub room : (bs out ws : List ℕ) (a k more : ℕ) → length (words_of bs) ≤ length out → a ≡ k * 3 → length ws ≡ length out → a + more * 3 + 2 < length bs
-    → k + more < length ws
-room bs out ws a k more h e f m = omega (arith, words_count bs, h, e, f, m)
-
 pub bytes_count : (s : ℕ) (ws : List ℕ) → length (bytes_of s ws) ≡ length ws * 3
 unfolding bytes_of word_bytes
 bytes_count s [] = refl
 bytes_count s (w ∷ ws) = omega (arith, bytes_count s ws)
 
 -- three words stored
+words_cons : (bs : List ℕ) (a : ℕ) → a + 2 < length bs → words_of (drop a bs) ≡ (get_or bs a 0 * 256 + get_or bs (a + 1) 0) ∷ words_of (drop (a + 3) bs)
+unfolding words_of
+words_cons bs a h = rw (three bs a h)
+
 pub three_stored : (bs out : List ℕ) (r u v : ℕ) → length bs ≡ 9 → 3 ≤ length out → r ≡ get_or bs 0 0 * 256 + get_or bs 1 0 → u ≡ get_or bs 3 0 * 256 + get_or bs 4 0
     → v ≡ get_or bs 6 0 * 256 + get_or bs 7 0 → set (set (set out 0 r) 1 u) 2 v ≡ overlay out 0 (words_of bs)
-three_stored bs out r u v nine h e f g =
-    words-end bs (set (set (set out 0 r) 1 u) 2 v) 9 3 (omega (arith, nine))
-    (words_more bs (set (set out 0 r) 1 u) 6 2 v (omega (arith, nine)) g
-    (words_more bs (set out 0 r) 3 1 u (omega (arith, nine)) f (words_more bs out 0 0 r (omega (arith, nine)) e refl)))
-    ∙ overlay-sets (words_of bs) out (omega (arith, words_count bs, nine, h))
+three_stored bs out r u v nine m e f g =
+    let last : words_of (drop 9 bs) ≡ [] = no_words_lem (drop 9 bs) (short bs 9 (omega (arith, nine))) in
+    let third = rw last at (words_cons bs 6 (omega (arith, nine))) in
+    let second = rw third at (words_cons bs 3 (omega (arith, nine))) in
+    let all : words_of bs ≡ r ∷ u ∷ v ∷ [] = rw (e, f, g) (rw second at (words_cons bs 0 (omega (arith, nine)))) in
+    rw all (overlay-sets (r ∷ u ∷ v ∷ []) out m)
+
+pub ruleset three_checked = (first-wrong, second_wrong, third_wrong, three_good)

@@ -1,13 +1,6 @@
 -- What a function that stores into a lent slice answers, and what the slice holds afterwards.
 use Rattle.std.specs.Prelude.{ℕ, List}
-use Rattle.refusal.specs.Refusals.{Numbered, paper, Answered, served, refused}
-use Rattle.i2c.specs.declared.Stored.{Stored}
-use Rattle.i2c.specs.declared.Stored.TheVariants.{Count, Refused}
-
--- the answer, case by case
-abbrev pub paper_stored : Stored → Answered ℕ
-paper_stored (Count n) = served n
-paper_stored (Refused r) = refused (paper r)
+use Rattle.refusal.specs.Refusals.{Numbered, Answered, refused}
 
 -- the answer, and the lent slice afterwards
 abbrev pub Outcome : Type 0

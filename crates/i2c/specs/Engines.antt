@@ -2,12 +2,18 @@
 -- what the bits give. The proof is `engines_agree` of proofs/Engines.antt.
 use Rattle.std.specs.Prelude.{ℕ, ◌<◌, ◌≡◌, List, [], ◌∷◌, get_or}
 use Rattle.std.specs.Int.Bits.{bit_xor}
+use Rattle.std.specs.Coded.{Coded-set, coded_ℕ, Π_prop, →_prop}
 use Rattle.i2c.specs.Crc.{bit_steps, crc_of}
 
 -- the table's rule: the entry of each byte is so many bits from it. 8 bits are the step of one byte; the code has no other table in its
 -- source, and makes that of 16 from it
 unfoldable pub Steps : ℕ → List ℕ → Type 0
 Steps bits table = (x : ℕ) → x < 256 → get_or table x 0 ≡ bit_steps bits x
+
+-- there is one proof of it at most, so a table may keep it
+pub Steps-prop : (bits : ℕ) (table : List ℕ) → IsProp (Steps bits table)
+unfolding Steps
+Steps-prop bits table = Π_prop (λ x. →_prop (Coded-set coded_ℕ (get_or table x 0) (bit_steps bits x)))
 
 -- a byte: it is added to the register by exclusive or, and the entry there is the new register
 unfoldable pub table_step : List ℕ → ℕ → ℕ → ℕ

@@ -1,8 +1,6 @@
 -- The fields of a liquid sensor's registers, bit by bit.
 use Rattle.std.specs.Prelude.{ℕ, zero, suc, ◌+◌, ◌-◌, ◌*◌, ◌/◌, ◌%◌, ◌^◌, Bool, cond, ◌&&◌, leb, ltb}
-use Rattle.refusal.specs.Refusals.{number, paper, Answered, served, refused}
-use Rattle.i2c.specs.declared.register.Edited.{Edited}
-use Rattle.i2c.specs.declared.register.Edited.TheVariants.{Value, Refused}
+use Rattle.refusal.specs.Refusals.{number, Answered, served, refused}
 
 -- bit k of a number, counted from 0 at its low end
 unfoldable pub bit : ℕ → ℕ → ℕ
@@ -20,11 +18,6 @@ in_field low k = leb low k && ltb k (low + 3)
 -- 01, Words on I2C: field edits change only their three bits; each of the 16 bits is the field's inside it and the register's outside
 unfoldable pub with_field : ℕ → ℕ → ℕ → ℕ
 with_field low field register = of_bits 16 (λ k. cond (in_field low k) (bit (k - low) field) (bit k register))
-
--- the answer, case by case
-abbrev pub paper_edited : Edited → Answered ℕ
-paper_edited (Value register) = served register
-paper_edited (Refused r) = refused (paper r)
 
 -- a field over its greatest value is 12
 unfoldable pub edit : ℕ → ℕ → ℕ → ℕ → Answered ℕ

@@ -1,13 +1,11 @@
 -- Words: high byte, low byte, CRC.
-use Rattle.std.specs.Prelude.{ℕ, suc, ◌+◌, ◌*◌, ◌/◌, ◌%◌, Bool, cond, not, ◌||◌, List, [], ◌∷◌, ◌++◌, eqb, length}
+use Rattle.std.specs.Prelude.{ℕ, suc, ◌+◌, ◌*◌, ◌/◌, ◌%◌, Bool, cond, not, ◌||◌, List, [], ◌∷◌, ◌++◌, eqb, length, Option, Some, None}
 use Rattle.refusal.specs.Refusals.{number, ◌carrying◌}
 use Rattle.refusal.specs.Room.{emit}
 use Rattle.i2c.specs.Answer.{Outcome, refuse}
 use Rattle.i2c.specs.Crc.{crc_of}
 use Rattle.i2c.specs.declared.word.Family.{Family}
 use Rattle.i2c.specs.declared.word.Family.TheVariants.{Liquid, Sfc6}
-use Rattle.i2c.specs.declared.word.Checked.{Checked}
-use Rattle.i2c.specs.declared.word.Checked.TheVariants.{Good, WrongAt}
 
 -- 01, Words on I2C: the start value, 00 for liquid sensors and FF for SFC6
 abbrev pub start_of : Family → ℕ
@@ -57,9 +55,9 @@ first_wrong start (h ∷ l ∷ []) = all_good
 first_wrong start (h ∷ l ∷ c ∷ rest) = or_else (check_word start h l c) (later (first_wrong start rest))
 
 -- the check's answer in the code, case by case
-abbrev pub paper_checked : Checked → Check
-paper_checked Good = all_good
-paper_checked (WrongAt k) = wrong_at k
+abbrev pub paper_checked : Option ℕ → Check
+paper_checked None = all_good
+paper_checked (Some k) = wrong_at k
 
 -- 01, Refusal numbers: 16 where word bytes are empty or not a multiple of 3
 unfoldable pub no_words : List ℕ → Bool

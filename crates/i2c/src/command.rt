@@ -1,15 +1,14 @@
 // Command bytes of both families. The I2C header byte belongs to the bus driver and is not written.
 ghost use Rattle.std.specs.Prelude.{◌≡◌, [], ◌∷◌};
+ghost use Rattle.refusal.specs.Refusals.{answered};
 ghost use Rattle.refusal.specs.Room.{emit};
-ghost use Rattle.i2c.specs.Answer.{paper_stored};
 ghost use Rattle.i2c.specs.Command.{alone, ◌taking◌, asked, pair, write_sfc6, liquid_bytes};
 
-use crate::Stored;
-use crate::word::{SFC6_START, high, low, pair_crc};
+use crate::word::{SFC6_START, word_crc};
 use refusal::Refusal;
 
 // The SFC6 commands that can be asked for. A concentration is in per mille, 0 to 1000.
-#[derive(Clone, Copy)]
+#[derive(Clone, Copy, Debug, PartialEq, Eq)]
 pub enum Sfc6 {
     // E102
     PointToTemperature,
@@ -28,7 +27,7 @@ pub enum Sfc6 {
 }
 
 // The liquid commands. A register write carries the register's new value.
-#[derive(Clone, Copy)]
+#[derive(Clone, Copy, Debug, PartialEq, Eq)]
 pub enum Liquid {
     // E2
     WriteUser(u16),
@@ -49,45 +48,42 @@ pub enum Liquid {
 }
 
 // Writes bytes at the room's start.
-fn put(bytes: &[u8], out: &mut [u8]) -> Stored
-    ensures { (paper_stored result, out.new) ≡ emit bytes.now out.old }
+#[tactic(auto, unfolding(refusal::specs::Room::emit, refusal::specs::Room::overlay))]
+fn put(bytes: &[u8], out: &mut [u8]) -> Result<usize, Refusal>
+    ensures { (answered result, out.new) ≡ emit bytes.now out.old }
 {
     let n = bytes.len();
     if out.len() < n {
-        return Stored::Refused(Refusal::NoRoom);
+        return Err(Refusal::NoRoom);
     }
-    let mut i = 0;
-    while i < n {
-        out[i] = bytes[i];
-        i += 1;
-    }
-    Stored::Count(n)
+    out[..n].copy_from_slice(bytes);
+    Ok(n)
 }
 
 // A command alone: no CRC.
-fn write_alone(code: u16, out: &mut [u8]) -> Stored
-    ensures { (paper_stored result, out.new) ≡ write_sfc6 (alone code) out.old }
+#[tactic(auto, unfolding(crate::specs::Command::write_sfc6))]
+fn write_alone(code: u16, out: &mut [u8]) -> Result<usize, Refusal>
+    ensures { (answered result, out.new) ≡ write_sfc6 (alone code) out.old }
 {
-    put(&[high(code), low(code)], out)
+    put(&code.to_be_bytes(), out)
 }
 
 // A command and a concentration: a word with CRC.
-#[tactic(auto, using(crate::proofs::CommandAnswers::taking_too_much))]
-fn write_taking(code: u16, concentration: u32, out: &mut [u8]) -> Stored
-    ensures { (paper_stored result, out.new) ≡ write_sfc6 (code taking concentration) out.old }
+#[tactic(auto, unfolding(crate::specs::Command::write_sfc6, crate::specs::Word::word_bytes))]
+fn write_taking(code: u16, concentration: u32, out: &mut [u8]) -> Result<usize, Refusal>
+    ensures { (answered result, out.new) ≡ write_sfc6 (code taking concentration) out.old }
 {
     if 1000 < concentration {
-        return Stored::Refused(Refusal::OutOfRange);
+        return Err(Refusal::OutOfRange);
     }
-    let h = high(concentration as u16);
-    let l = low(concentration as u16);
-    let crc = pair_crc(SFC6_START, h, l);
-    put(&[high(code), low(code), h, l, crc], out)
+    let [c, d] = code.to_be_bytes();
+    let [h, l] = (concentration as u16).to_be_bytes();
+    put(&[c, d, h, l, word_crc(SFC6_START, h, l)], out)
 }
 
 // Writes an SFC6 command.
-pub fn write_sfc6(command: Sfc6, out: &mut [u8]) -> Stored
-    ensures { (paper_stored result, out.new) ≡ write_sfc6 (asked command) out.old }
+pub fn write_sfc6(command: Sfc6, out: &mut [u8]) -> Result<usize, Refusal>
+    ensures { (answered result, out.new) ≡ write_sfc6 (asked command) out.old }
 {
     match command {
         Sfc6::PointToTemperature => write_alone(0xE102, out),
@@ -100,30 +96,25 @@ pub fn write_sfc6(command: Sfc6, out: &mut [u8]) -> Stored
     }
 }
 
-fn write_byte(code: u8, out: &mut [u8]) -> Stored
-    ensures { (paper_stored result, out.new) ≡ emit (code ∷ []) out.old }
+fn write_register(code: u8, value: u16, out: &mut [u8]) -> Result<usize, Refusal>
+    ensures { (answered result, out.new) ≡ emit (code ∷ pair value) out.old }
 {
-    put(&[code], out)
-}
-
-fn write_register(code: u8, value: u16, out: &mut [u8]) -> Stored
-    ensures { (paper_stored result, out.new) ≡ emit (code ∷ pair value) out.old }
-{
-    put(&[code, high(value), low(value)], out)
+    let [h, l] = value.to_be_bytes();
+    put(&[code, h, l], out)
 }
 
 // Writes a liquid command.
-pub fn write_liquid(command: Liquid, out: &mut [u8]) -> Stored
-    ensures { (paper_stored result, out.new) ≡ emit (liquid_bytes command) out.old }
+pub fn write_liquid(command: Liquid, out: &mut [u8]) -> Result<usize, Refusal>
+    ensures { (answered result, out.new) ≡ emit (liquid_bytes command) out.old }
 {
     match command {
         Liquid::WriteUser(value) => write_register(0xE2, value, out),
-        Liquid::ReadUser => write_byte(0xE3, out),
+        Liquid::ReadUser => put(&[0xE3], out),
         Liquid::WriteAdvanced(value) => write_register(0xE4, value, out),
-        Liquid::ReadAdvanced => write_byte(0xE5, out),
-        Liquid::Flow => write_byte(0xF1, out),
-        Liquid::Temperature => write_byte(0xF3, out),
-        Liquid::Supply => write_byte(0xF5, out),
-        Liquid::Reset => write_byte(0xFE, out),
+        Liquid::ReadAdvanced => put(&[0xE5], out),
+        Liquid::Flow => put(&[0xF1], out),
+        Liquid::Temperature => put(&[0xF3], out),
+        Liquid::Supply => put(&[0xF5], out),
+        Liquid::Reset => put(&[0xFE], out),
     }
 }

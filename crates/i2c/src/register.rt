@@ -1,35 +1,36 @@
 // The fields of a liquid sensor's registers. An edit is a step on a number: reading the register first, writing it and
 // reading it again are the caller's.
-ghost use Rattle.std.specs.Prelude.{◌≡◌};
-ghost use Rattle.i2c.specs.Register.{paper_edited, edit_user, edit_advanced};
+ghost use Rattle.std.specs.Prelude.{◌≡◌, ◌⊎◌, ◌≤◌, ◌+◌, ◌-◌, ◌*◌, ◌/◌, ◌%◌, cond, leb};
+ghost use Rattle.refusal.specs.Refusals.{answered, number, served, refused};
+ghost use Rattle.i2c.specs.Register.{edit_user, edit_advanced};
 
 use refusal::Refusal;
 
-// The register with the field changed, or why not.
-#[derive(Clone, Copy)]
-pub enum Edited {
-    Value(u16),
-    Refused(Refusal),
+// A register with another three-bit field, 0 to the greatest; the unit is what the field's lowest bit is worth.
+fn edited(register: u16, unit: u16, greatest: u32, field: u32) -> Result<u16, Refusal>
+    requires unit { (unit ≡ 16) ⊎ (unit ≡ 512) }
+    requires greatest { greatest ≤ 7 }
+    ensures { answered result ≡ cond (leb field greatest) (served (register - register / unit % 8 * unit + field * unit)) (refused (number 12)) }
+{
+    if greatest < field {
+        return Err(Refusal::OutOfRange);
+    }
+    let old = register / unit % 8;
+    Ok(register - old * unit + (field as u16) * unit)
 }
 
 // The user register with another calibration field: bits 6:4, 0 to 4.
-pub fn edit_user(register: u16, field: u32) -> Edited
-    ensures { paper_edited result ≡ edit_user field register }
+#[tactic(auto, using(crate::proofs::RegisterLaws::user_edited))]
+pub fn edit_user(register: u16, field: u32) -> Result<u16, Refusal>
+    ensures { answered result ≡ edit_user field register }
 {
-    if 4 < field {
-        return Edited::Refused(Refusal::OutOfRange);
-    }
-    let old = register / 16 % 8;
-    Edited::Value(register - old * 16 + (field as u16) * 16)
+    edited(register, 16, 4, field)
 }
 
 // The advanced register with another resolution: bits 11:9, 0 to 7.
-pub fn edit_advanced(register: u16, field: u32) -> Edited
-    ensures { paper_edited result ≡ edit_advanced field register }
+#[tactic(auto, using(crate::proofs::RegisterLaws::advanced_edited))]
+pub fn edit_advanced(register: u16, field: u32) -> Result<u16, Refusal>
+    ensures { answered result ≡ edit_advanced field register }
 {
-    if 7 < field {
-        return Edited::Refused(Refusal::OutOfRange);
-    }
-    let old = register / 512 % 8;
-    Edited::Value(register - old * 512 + (field as u16) * 512)
+    edited(register, 512, 7, field)
 }

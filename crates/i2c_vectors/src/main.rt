@@ -2,26 +2,30 @@
 // stdout, which is written from the papers and never by this program.
 #![tactic(auto)]
 
-mod digits;
 mod show;
 mod table;
 
-use show::Output;
+use std::fmt::Display;
 use std::io;
 
+// A line for each vector.
+fn lines<V: Display>(rt: &impl Print, vectors: &[V]) -> io::Result<()> {
+    for vector in vectors {
+        println!(rt; "{vector}")?;
+    }
+    Ok(())
+}
+
 fn main(rt: HostRuntime) -> io::Result<()> {
-    let mut to = Output {
-        stdout: rt.stdout(),
-        written: Ok(()),
-    };
-    table::makers_crcs(&mut to);
-    table::derived_crcs(&mut to);
-    table::steps(&mut to);
-    table::words(&mut to);
-    table::number_formats(&mut to);
-    table::commands(&mut to);
-    table::registers(&mut to);
-    table::readings(&mut to);
-    table::rounding(&mut to);
-    to.written
+    lines(&rt, &table::MAKERS_CRCS)?;
+    lines(&rt, &table::DERIVED_CRCS)?;
+    lines(&rt, &table::FIRST_AND_LAST_STEPS)?;
+    lines(&rt, &table::STEPS)?;
+    lines(&rt, &table::READS)?;
+    lines(&rt, &table::WRITES)?;
+    lines(&rt, &table::NUMBER_FORMATS)?;
+    lines(&rt, &table::COMMANDS)?;
+    lines(&rt, &table::REGISTERS)?;
+    lines(&rt, &table::READINGS)?;
+    lines(&rt, &table::ROUNDING)
 }

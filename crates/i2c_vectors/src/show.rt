@@ -1,264 +1,188 @@
-// What a vector gives, put out as one line. A contract cannot say what is written: it is compared when the program runs.
-ghost use Rattle.std.specs.Prelude.{◌≤◌};
-
-use crate::digits::{bits, hex, signed};
-use i2c::Stored;
-use i2c::command::{Liquid, Sfc6};
-use i2c::register::Edited;
-use i2c::word::{LIQUID_START, SFC6_START};
-use reading::{Quantity, Thousandths};
+// A vector as its line: what is asked, and what the crates answer. The lines are compared with the file stdout when the program runs.
+use i2c::command::{Liquid, Sfc6, write_liquid, write_sfc6};
+use i2c::crc::{crc, table_crc};
+use i2c::register::{edit_advanced, edit_user};
+use i2c::word::{LIQUID_START, SFC6_START, read_words, write_words};
+use reading::{scaled, scaled_float};
 use refusal::Refusal;
-use std::io::{self, Print, Stdout};
+use std::fmt;
+use vector_text::{Bits, Bytes, Said, Spaced, first};
 
-// Where the lines go, and whether all were written. After a write that failed nothing more is written, and main returns its error.
-#[derive(Drop)]
-pub(crate) struct Output {
-    pub(crate) stdout: Stdout,
-    pub(crate) written: io::Result<()>,
-}
+// The CRC of bytes from both start values, by both functions.
+#[derive(Clone, Copy)]
+pub(crate) struct Crc(pub(crate) &'static [u8]);
 
-pub(crate) fn crc(to: &mut Output, bytes: &[u8]) {
-    text(to, b"crc");
-    each(to, bytes, bytes.len());
-    text(to, b":");
-    byte(to, i2c::crc::crc(LIQUID_START, bytes));
-    byte(to, i2c::crc::crc(SFC6_START, bytes));
-    text(to, b", by the table");
-    byte(to, i2c::crc::table_crc(LIQUID_START, bytes));
-    byte(to, i2c::crc::table_crc(SFC6_START, bytes));
-    text(to, b"\n");
-}
-
-pub(crate) fn row(to: &mut Output, first: u8)
-    requires { first ≤ 240 }
-{
-    text(to, b"steps from");
-    byte(to, first);
-    text(to, b":");
-    let mut k: u8 = 0;
-    while k < 16 {
-        byte(to, step_of(first + k));
-        k += 1;
+impl fmt::Display for Crc {
+    fn fmt<W: fmt::Write>(&self, f: &mut fmt::Formatter<W>) -> fmt::Result {
+        let bytes = self.0;
+        let by_steps = [crc(LIQUID_START, bytes), crc(SFC6_START, bytes)];
+        let by_table = [table_crc(LIQUID_START, bytes), table_crc(SFC6_START, bytes)];
+        write!(
+            f,
+            "crc{}:{}, by the table{}",
+            Bytes(bytes),
+            Bytes(&by_steps),
+            Bytes(&by_table)
+        )
     }
-    text(to, b"\n");
 }
 
-pub(crate) fn step(to: &mut Output, value: u8) {
-    text(to, b"step");
-    byte(to, value);
-    text(to, b":");
-    byte(to, step_of(value));
-    text(to, b"\n");
-}
-
+// What eight bits make of a value.
 fn step_of(value: u8) -> u8 {
-    let one = [value];
-    i2c::crc::crc(LIQUID_START, &one)
+    crc(LIQUID_START, &[value])
 }
 
-pub(crate) fn read(to: &mut Output, start: u8, bytes: &[u8]) {
-    let mut words = [0u16; 4];
-    asked(to, start, bytes);
-    shown_words(to, i2c::word::read_words(start, bytes, &mut words), &words);
-}
+#[derive(Clone, Copy)]
+pub(crate) struct Step(pub(crate) u8);
 
-pub(crate) fn read_one(to: &mut Output, start: u8, bytes: &[u8]) {
-    let mut words = [0u16; 1];
-    asked(to, start, bytes);
-    shown_words(to, i2c::word::read_words(start, bytes, &mut words), &words);
-}
-
-fn asked(to: &mut Output, start: u8, bytes: &[u8]) {
-    text(to, b"read");
-    byte(to, start);
-    text(to, b":");
-    each(to, bytes, bytes.len());
-    text(to, b":");
-}
-
-fn shown_words(to: &mut Output, answer: Stored, words: &[u16]) {
-    match answer {
-        Stored::Count(n) => numbers(to, words, n),
-        Stored::Refused(r) => refused(to, r),
+impl fmt::Display for Step {
+    fn fmt<W: fmt::Write>(&self, f: &mut fmt::Formatter<W>) -> fmt::Result {
+        let value = self.0;
+        let step = step_of(value);
+        write!(f, "step {value:02X}: {step:02X}")
     }
-    text(to, b"\n");
 }
 
-pub(crate) fn write(to: &mut Output, start: u8, word: u16) {
-    let one = [word];
-    let mut out = [0u8; 8];
-    text(to, b"write");
-    byte(to, start);
-    text(to, b" ");
-    four_digits(to, word);
-    text(to, b":");
-    shown_bytes(to, i2c::word::write_words(start, &one, &mut out), &out);
-}
+// The same of a value and the fifteen after it.
+#[derive(Clone, Copy)]
+pub(crate) struct StepsFrom(pub(crate) u8);
 
-pub(crate) fn write_none(to: &mut Output, start: u8) {
-    let none: [u16; 0] = [];
-    let mut out = [0u8; 8];
-    text(to, b"write");
-    byte(to, start);
-    text(to, b":");
-    shown_bytes(to, i2c::word::write_words(start, &none, &mut out), &out);
-}
-
-pub(crate) fn sfc6(to: &mut Output, ask: &[u8], command: Sfc6) {
-    let mut out = [0u8; 8];
-    text(to, b"SFC6 ");
-    text(to, ask);
-    text(to, b":");
-    shown_bytes(to, i2c::command::write_sfc6(command, &mut out), &out);
-}
-
-pub(crate) fn liquid(to: &mut Output, ask: &[u8], command: Liquid) {
-    let mut out = [0u8; 8];
-    text(to, b"liquid ");
-    text(to, ask);
-    text(to, b":");
-    shown_bytes(to, i2c::command::write_liquid(command, &mut out), &out);
-}
-
-fn shown_bytes(to: &mut Output, answer: Stored, out: &[u8]) {
-    match answer {
-        Stored::Count(n) => each(to, out, n),
-        Stored::Refused(r) => refused(to, r),
-    }
-    text(to, b"\n");
-}
-
-pub(crate) fn user(to: &mut Output, register: u16, field: u32) {
-    text(to, b"user ");
-    edit(
-        to,
-        register,
-        field,
-        i2c::register::edit_user(register, field),
-    );
-}
-
-pub(crate) fn advanced(to: &mut Output, register: u16, field: u32) {
-    text(to, b"advanced ");
-    edit(
-        to,
-        register,
-        field,
-        i2c::register::edit_advanced(register, field),
-    );
-}
-
-fn edit(to: &mut Output, register: u16, field: u32, answer: Edited) {
-    four_digits(to, register);
-    text(to, b" to ");
-    decimal(to, field as u64);
-    text(to, b":");
-    match answer {
-        Edited::Value(v) => {
-            text(to, b" ");
-            four_digits(to, v);
+impl fmt::Display for StepsFrom {
+    fn fmt<W: fmt::Write>(&self, f: &mut fmt::Formatter<W>) -> fmt::Result {
+        let start = self.0;
+        write!(f, "steps from {start:02X}:")?;
+        for value in (start..=u8::MAX).take(16) {
+            let step = step_of(value);
+            write!(f, " {step:02X}")?;
         }
-        Edited::Refused(r) => refused(to, r),
+        Ok(())
     }
-    text(to, b"\n");
 }
 
-pub(crate) fn reading(to: &mut Output, raw: i16, offset: i16, scale: i32) {
-    text(to, b"reading ");
-    whole(to, raw as i32);
-    text(to, b" ");
-    whole(to, offset as i32);
-    text(to, b" ");
-    whole(to, scale);
-    text(to, b":");
-    match reading::scaled(raw, offset, scale) {
-        Thousandths::Value(q) => {
-            text(to, b" ");
-            whole(to, q);
+// The words of bytes from a start value, with room for so many.
+#[derive(Clone, Copy)]
+pub(crate) struct Read(pub(crate) u8, pub(crate) &'static [u8], pub(crate) usize);
+
+impl fmt::Display for Read {
+    fn fmt<W: fmt::Write>(&self, f: &mut fmt::Formatter<W>) -> fmt::Result {
+        let Read(start, bytes, room) = *self;
+        let mut words = [0u16; 4];
+        let numbers = numbers_in(start, bytes, &mut words[..room.min(4)]);
+        write!(f, "read {start:02X}:{}:{}", Bytes(bytes), Said(numbers))
+    }
+}
+
+fn numbers_in<'a>(start: u8, bytes: &[u8], words: &'a mut [u16]) -> Result<Numbers<'a>, Refusal> {
+    let count = read_words(start, bytes, words)?;
+    Ok(Numbers(first(words, count)))
+}
+
+#[derive(Clone, Copy)]
+struct Numbers<'a>(&'a [u16]);
+
+impl fmt::Display for Numbers<'_> {
+    fn fmt<W: fmt::Write>(&self, f: &mut fmt::Formatter<W>) -> fmt::Result {
+        for number in self.0 {
+            write!(f, " {number}")?;
         }
-        Thousandths::Refused(r) => refused(to, r),
+        Ok(())
     }
-    match reading::scaled_float(raw, offset, scale) {
-        Quantity::Value(x) => eight_digits(to, bits(x)),
-        Quantity::Refused(r) => refused(to, r),
-    }
-    text(to, b"\n");
 }
 
-// The first n bytes of a slice, or all.
-fn each(to: &mut Output, bytes: &[u8], n: usize) {
-    let mut i = 0;
-    while i < bytes.len() {
-        if i < n {
-            byte(to, bytes[i]);
+// A word by its four digits.
+#[derive(Clone, Copy)]
+struct Word(u16);
+
+impl fmt::Display for Word {
+    fn fmt<W: fmt::Write>(&self, f: &mut fmt::Formatter<W>) -> fmt::Result {
+        let word = self.0;
+        write!(f, " {word:04X}")
+    }
+}
+
+// The bytes of words from a start value.
+#[derive(Clone, Copy)]
+pub(crate) struct Write(pub(crate) u8, pub(crate) &'static [u16]);
+
+impl fmt::Display for Write {
+    fn fmt<W: fmt::Write>(&self, f: &mut fmt::Formatter<W>) -> fmt::Result {
+        let Write(start, words) = *self;
+        write!(f, "write {start:02X}")?;
+        for &word in words {
+            write!(f, "{}", Word(word))?;
         }
-        i += 1;
+        let mut out = [0u8; 8];
+        let written = write_words(start, words, &mut out);
+        write!(f, ":{}", Said(written.map(|n| Bytes(first(&out, n)))))
     }
 }
 
-// The first n numbers of a slice, or all.
-fn numbers(to: &mut Output, words: &[u16], n: usize) {
-    let mut i = 0;
-    while i < words.len() {
-        if i < n {
-            number(to, words[i]);
-        }
-        i += 1;
+#[derive(Clone, Copy)]
+pub(crate) enum Command {
+    Sfc6(Sfc6),
+    Liquid(Liquid),
+}
+
+// A command's ask in words, and the command.
+#[derive(Clone, Copy)]
+pub(crate) struct Ask(pub(crate) &'static str, pub(crate) Command);
+
+impl fmt::Display for Ask {
+    fn fmt<W: fmt::Write>(&self, f: &mut fmt::Formatter<W>) -> fmt::Result {
+        let Ask(ask, command) = *self;
+        let mut out = [0u8; 8];
+        let (family, written) = match command {
+            Command::Sfc6(command) => ("SFC6", write_sfc6(command, &mut out)),
+            Command::Liquid(command) => ("liquid", write_liquid(command, &mut out)),
+        };
+        write!(
+            f,
+            "{family} {ask}:{}",
+            Said(written.map(|n| Bytes(first(&out, n))))
+        )
     }
 }
 
-fn number(to: &mut Output, w: u16) {
-    text(to, b" ");
-    decimal(to, w as u64);
+#[derive(Clone, Copy)]
+pub(crate) enum Register {
+    User,
+    Advanced,
 }
 
-fn refused(to: &mut Output, r: Refusal) {
-    text(to, b" refused ");
-    decimal(to, refusal::number(r) as u64);
-    if let Refusal::WrongCrc(k) = r {
-        text(to, b" at ");
-        decimal(to, k as u64);
+// A register, what it holds, and the field to be put into it.
+#[derive(Clone, Copy)]
+pub(crate) struct Edit(pub(crate) Register, pub(crate) u16, pub(crate) u32);
+
+impl fmt::Display for Edit {
+    fn fmt<W: fmt::Write>(&self, f: &mut fmt::Formatter<W>) -> fmt::Result {
+        let Edit(register, held, field) = *self;
+        let (name, edited) = match register {
+            Register::User => ("user", edit_user(held, field)),
+            Register::Advanced => ("advanced", edit_advanced(held, field)),
+        };
+        write!(
+            f,
+            "{name}{} to {field}:{}",
+            Word(held),
+            Said(edited.map(Word))
+        )
     }
 }
 
-fn byte(to: &mut Output, b: u8) {
-    text(to, b" ");
-    two_digits(to, b);
-}
+// Raw, offset and scale.
+#[derive(Clone, Copy)]
+pub(crate) struct Reading(pub(crate) i16, pub(crate) i16, pub(crate) i32);
 
-fn two_digits(to: &mut Output, b: u8) {
-    let h = hex(b);
-    let pair = [h.0, h.1];
-    text(to, &pair);
-}
-
-fn four_digits(to: &mut Output, w: u16) {
-    two_digits(to, (w / 256) as u8);
-    two_digits(to, (w % 256) as u8);
-}
-
-fn eight_digits(to: &mut Output, x: u32) {
-    text(to, b" ");
-    four_digits(to, (x / 65536) as u16);
-    four_digits(to, (x % 65536) as u16);
-}
-
-fn whole(to: &mut Output, z: i32) {
-    let s = signed(z);
-    if s.negative {
-        text(to, b"-");
-    }
-    decimal(to, s.size);
-}
-
-fn decimal(to: &mut Output, n: u64) {
-    if to.written.is_ok() {
-        to.written = to.stdout.print(n);
-    }
-}
-
-fn text(to: &mut Output, s: &[u8]) {
-    if to.written.is_ok() {
-        to.written = to.stdout.write_all(s);
+impl fmt::Display for Reading {
+    fn fmt<W: fmt::Write>(&self, f: &mut fmt::Formatter<W>) -> fmt::Result {
+        let Reading(raw, offset, scale) = *self;
+        let thousandths = scaled(raw, offset, scale).map(Spaced);
+        let float = scaled_float(raw, offset, scale).map(|x| Spaced(Bits(x)));
+        write!(
+            f,
+            "reading {raw} {offset} {scale}:{}{}",
+            Said(thousandths),
+            Said(float)
+        )
     }
 }

@@ -8,11 +8,10 @@ use borrow.Author.Tests.{lt-ltb, le-ltb, ltb-true, ltb-false}
 use lib.Dec.{ltb}
 use lib.ListN.{length, take, drop, length-take, take-append-drop}
 use lib.Seq.{take-take, drop-drop}
-use Rattle.refusal.specs.Refusals.{served}
+use Rattle.refusal.specs.Refusals.{served, answered}
 use Rattle.refusal.specs.declared.Refusal.{Refusal}
 use Rattle.refusal.proofs.Order.{refused_not_served}
-use Rattle.shdlc.specs.Paper.{paper_written}
-use Rattle.shdlc.specs.declared.Written.TheVariants.{Done, Refused}
+use Rattle.std.specs.Prelude.{Ok, Err}
 use Rattle.shdlc.specs.Stream.{Event, byte}
 use Rattle.shdlc.proofs.Stream.{map-append}
 use Rattle.receiver.specs.Record.{Record, held, in_range, fresh, next_byte, record_from}
@@ -98,7 +97,7 @@ pub record Went (p : Progress) (piece out : List ℕ) (place : ℕ) (f : Filled)
   pub text : take n after ≡ take place out ++ shown_by p.holds (take f.taken piece)
 
 module _ (p : Progress) (piece out : List ℕ) (place : ℕ) (f : Filled) {store after : List ℕ} {n : ℕ} where
-  went_free : 24 ≤ length out - place → served n ≡ paper_written f.said
+  went_free : 24 ≤ length out - place → served n ≡ answered f.said
       → paper_filled f store after ≡ filled_by p (fitting (length out - place) p.holds (take p.left piece)) out place
       → Went p piece out place f store after n
   went_free h said e =
@@ -126,11 +125,11 @@ module _ (p : Progress) (piece out : List ℕ) (place : ℕ) (f : Filled) {store
             ∙ ap (λ (l : List ℕ). take place out ++ shown_by p.holds l) (sym front);
       }
 
-  pub went : paper_filled f store after ≡ fill_of p piece out place → f.said ≡ Done n → Went p piece out place f store after n
+  pub went : paper_filled f store after ≡ fill_of p piece out place → f.said ≡ Ok n → Went p piece out place f store after n
   went e done = go (in_range p.holds) (ltb (length out - place) 24) refl refl
     where
-      says : served n ≡ paper_written f.said
-      says = ap paper_written (sym done)
+      says : served n ≡ answered f.said
+      says = ap answered (sym done)
 
       go : (t u : Bool) → in_range p.holds ≡ t → ltb (length out - place) 24 ≡ u → Went p piece out place f store after n
       go true true g h =
@@ -141,9 +140,9 @@ module _ (p : Progress) (piece out : List ℕ) (place : ℕ) (f : Filled) {store
 
 -- a record within its ranges and 24 bytes of room are never refused
 pub never_refused : (p : Progress) (piece out : List ℕ) (place : ℕ) (f : Filled) {store after : List ℕ} {why : Refusal} → paper_filled f store after ≡ fill_of p piece out place → in_range p.holds ≡ true → 24 ≤ length out - place
-    → f.said ≡ Refused why → ⊥
+    → f.said ≡ Err why → ⊥
 never_refused p piece out place f e range free said =
-    refused_not_served (sym (ap paper_written said) ∙ ap (λ (x : Fill). x.said) (e ∙ sym (fill-free p piece out place range free)))
+    refused_not_served (sym (ap answered said) ∙ ap (λ (x : Fill). x.said) (e ∙ sym (fill-free p piece out place range free)))
 
 -- bytes keep a record within its ranges
 pub range_kept : (r : Record) (more : List Event) → in_range r ≡ true → in_range (record_from r more) ≡ true

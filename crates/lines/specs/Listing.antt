@@ -1,10 +1,9 @@
 -- Listing a stream piece by piece: the model of a call. `EveryListing` of Series.antt ties it to the text of Program.antt.
 use Rattle.std.specs.Prelude.{ℕ, ◌+◌, ◌-◌, cond, List, [], ◌∷◌, ◌++◌, map, ltb, length, take}
-use Rattle.refusal.specs.Refusals.{number, Answered, served, refused}
+use Rattle.refusal.specs.Refusals.{number, Answered, served, refused, answered}
 use Rattle.refusal.specs.Room.{overlay}
 use Rattle.shdlc.specs.declared.Kind.{Kind}
 use Rattle.shdlc.specs.Stream.{byte}
-use Rattle.shdlc.specs.Paper.{paper_written}
 use Rattle.receiver.specs.Record.{Record, held, in_range, fresh, item_of, next_byte, record_from}
 use Rattle.receiver.specs.Calls.{closes}
 use Rattle.lines.specs.declared.Listing.{Listing}
@@ -43,7 +42,7 @@ pub record Fill : Type 0 where
   pub out : List ℕ
 
 abbrev pub paper_filled : Filled → List ℕ → List ℕ → Fill
-paper_filled f store out = record { leaves = paper_listing f.listing store; taken = f.taken; said = paper_written f.said; out = out }
+paper_filled f store out = record { leaves = paper_listing f.listing store; taken = f.taken; said = answered f.said; out = out }
 
 -- bytes taken, and their lines laid from a place on
 abbrev pub filled_by : Progress → List ℕ → List ℕ → ℕ → Fill

@@ -1,184 +1,162 @@
 // The lines that the program puts out of a stream's items.
 #![tactic(auto)]
 
-ghost use Rattle.std.specs.Prelude.{◌≡◌, true, ◌+◌, ◌-◌, ◌≤◌, min, length, get_or, take};
+ghost use Rattle.std.specs.Prelude.{◌≡◌, true, ◌+◌, ◌-◌, ◌≤◌, ◌++◌, min, length, get_or, take};
+ghost use Rattle.arrayvec.specs.ArrayVec.{array_vec_len};
+ghost use Rattle.refusal.specs.Refusals.{served, paper, answered};
 ghost use Rattle.refusal.specs.Room.{overlay, emit};
-ghost use Rattle.refusal.specs.Refusals.{served, paper, is_placed};
-ghost use Rattle.shdlc.specs.Paper.{paper_written};
 ghost use Rattle.receiver.specs.Record.{held, in_range};
 ghost use Rattle.receiver.specs.Calls.{paper_answer};
-ghost use Rattle.lines.specs.Text.{decimal, field, frame_line, placed_field, refused_line, end_line};
+ghost use Rattle.lines.specs.Text.{decimal, field, frame_line, refused_line, end_line};
 ghost use Rattle.lines.specs.Program.{line_of, limit};
 ghost use Rattle.lines.specs.Listing.{paper_listing, paper_filled, fill_of};
-ghost use Rattle.lines.specs.Private.{said_line, paper_listed, list_of};
+ghost use Rattle.lines.specs.Private.{place_told, said_line, paper_listed, list_of};
 
-use receiver::{Answer, NoiseCount, Receiver};
+use arrayvec::ArrayVec;
+use itoa::Buffer;
+use receiver::Receiver;
 use refusal::Refusal;
-use shdlc::Written;
 
 // The most bytes that are read.
 const LIMIT: u32 = 4_294_967_295;
 
-// Writes a number in decimal from a place on, and answers the place after it.
-fn put_decimal(out: &mut [u8], place: usize, n: u32) -> usize
-    requires { place + length (decimal n) ≤ length out.old }
-    ensures { (result ≡ place + length (decimal n)) × (out.new ≡ overlay out.old place (decimal n)) }
+// The bytes that hold every line.
+const LINE: usize = 24;
+
+// Not by `write!`, which was tried: its clause says what was written where it is Ok, and not when it is, so that no line is proved whole.
+type Line = ArrayVec<u8, LINE>;
+
+fn append<const N: usize>(text: &mut ArrayVec<u8, N>, bytes: &[u8])
+    requires { array_vec_len text.old + length bytes.now ≤ N }
+    ensures items { text.new.items ≡ text.old.items ++ bytes.now }
+    ensures len { array_vec_len text.new ≡ array_vec_len text.old + length bytes.now }
 {
-    if n < 10 {
-        out[place] = 48 + n as u8;
-        return place + 1;
+    let _ = text.try_extend_from_slice(bytes);
+}
+
+#[tactic(auto, using(crate::proofs::Decimal::decimal_printed))]
+fn append_number<const N: usize>(text: &mut ArrayVec<u8, N>, n: u32)
+    requires { array_vec_len text.old + length (decimal n) ≤ N }
+    ensures items { text.new.items ≡ text.old.items ++ decimal n }
+    ensures len { array_vec_len text.new ≡ array_vec_len text.old + length (decimal n) }
+{
+    let mut buffer = Buffer::new();
+    append(text, buffer.format(n).as_bytes());
+}
+
+// A number in decimal.
+#[tactic(auto, using(crate::proofs::Decimal::decimal_u32))]
+pub fn digits(n: u32) -> ArrayVec<u8, 10>
+    ensures { result.items ≡ decimal n }
+{
+    let mut text = ArrayVec::new();
+    append_number(&mut text, n);
+    text
+}
+
+// A number and the byte after it.
+#[tactic(auto, using(crate::proofs::Decimal::field_size), unfolding(crate::specs::Text::field))]
+fn append_field(line: &mut Line, n: u32, after: u8)
+    requires { array_vec_len line.old + length (field n after) ≤ 24 }
+    ensures items { line.new.items ≡ line.old.items ++ field n after }
+    ensures len { array_vec_len line.new ≡ array_vec_len line.old + length (field n after) }
+{
+    append_number(line, n);
+    line.push(after);
+}
+
+#[tactic(auto, using(crate::proofs::Decimal::field_byte), unfolding(crate::specs::Text::frame_line))]
+fn frame_line(address: u8, command: u8, l: u8) -> Line
+    ensures { result.items ≡ frame_line address command l }
+{
+    let mut line = Line::new();
+    append(&mut line, b"frame ");
+    append_field(&mut line, u32::from(address), b' ');
+    append_field(&mut line, u32::from(command), b' ');
+    append_field(&mut line, u32::from(l), b'\n');
+    line
+}
+
+// The place in its stretch that a refusal tells, with 3 and 4 alone.
+fn place_told(why: Refusal) -> Option<u16>
+    ensures { result ≡ place_told why }
+{
+    match why {
+        Refusal::BadEscape(place) | Refusal::BareControl(place) => Some(place),
+        _ => None,
     }
-    let last = put_decimal(out, place, n / 10);
-    out[last] = 48 + (n % 10) as u8;
-    last + 1
 }
 
-// A number in decimal: so many of the first bytes.
-#[derive(Clone, Copy)]
-pub struct Numeral {
-    pub bytes: [u8; 10],
-    pub count: usize,
-}
-
-pub fn digits(n: u32) -> Numeral
-    ensures { (take result.count result.bytes ≡ decimal n) × (result.count ≡ length (decimal n)) × (result.count ≤ length result.bytes) }
+#[tactic(auto, using(crate::proofs::Decimal::field_byte, crate::proofs::Decimal::field_u16), unfolding(crate::specs::Text::refused_line, crate::specs::Text::placed_field))]
+fn refused_line(why: Refusal) -> Line
+    ensures { result.items ≡ refused_line (paper why) }
 {
-    let mut bytes = [0u8; 10];
-    let count = put_decimal(&mut bytes, 0, n);
-    Numeral {
-        bytes: bytes,
-        count: count,
-    }
+    let mut line = Line::new();
+    append(&mut line, b"refused ");
+    let n = u32::from(why.number());
+    let Some(place) = place_told(why) else {
+        append_field(&mut line, n, b'\n');
+        return line;
+    };
+    append_field(&mut line, n, b' ');
+    append(&mut line, b"at ");
+    append_field(&mut line, u32::from(place), b'\n');
+    line
 }
 
-// Writes bytes from a place on, and answers the place after them.
-fn put_bytes(out: &mut [u8], place: usize, bytes: &[u8]) -> usize
-    requires { place + length bytes.now ≤ length out.old }
-    ensures { (result ≡ place + length bytes.now) × (out.new ≡ overlay out.old place bytes.now) }
+#[tactic(auto, using(crate::proofs::Decimal::field_u32), unfolding(crate::specs::Text::end_line))]
+fn end_line(n: u32) -> Line
+    ensures { result.items ≡ end_line n }
 {
-    let mut o = place;
-    let mut i: usize = 0;
-    while i < bytes.len() {
-        out[o] = bytes[i];
-        o += 1;
-        i += 1;
-    }
-    o
-}
-
-// Writes a number and the byte after it.
-fn put_field(out: &mut [u8], place: usize, n: u32, after: u8) -> usize
-    requires { place + length (field n after) ≤ length out.old }
-    ensures { (result ≡ place + length (field n after)) × (out.new ≡ overlay out.old place (field n after)) }
-{
-    let last = put_decimal(out, place, n);
-    out[last] = after;
-    last + 1
-}
-
-fn put_frame(out: &mut [u8], place: usize, address: u8, command: u8, l: u8) -> usize
-    requires { place + 24 ≤ length out.old }
-    ensures { (result ≡ place + length (frame_line address command l)) × (out.new ≡ overlay out.old place (frame_line address command l)) }
-{
-    let first = put_bytes(out, place, b"frame ");
-    let second = put_field(out, first, address as u32, b' ');
-    let third = put_field(out, second, command as u32, b' ');
-    put_field(out, third, l as u32, b'\n')
-}
-
-// Whether the refusal with the number has a place in its stretch.
-fn is_placed(n: u8) -> bool
-    ensures { result ≡ is_placed n }
-{
-    n == 3 || n == 4
-}
-
-// Writes a refusal's number and its place in the stretch.
-fn put_placed(out: &mut [u8], place: usize, n: u8, at: u16) -> usize
-    requires { place + 16 ≤ length out.old }
-    ensures { (result ≡ place + length (placed_field n at)) × (out.new ≡ overlay out.old place (placed_field n at)) }
-{
-    let first = put_field(out, place, n as u32, b' ');
-    let second = put_bytes(out, first, b"at ");
-    put_field(out, second, at as u32, b'\n')
-}
-
-fn put_refused(out: &mut [u8], place: usize, why: Refusal) -> usize
-    requires { place + 24 ≤ length out.old }
-    ensures { (result ≡ place + length (refused_line (paper why))) × (out.new ≡ overlay out.old place (refused_line (paper why))) }
-{
-    let first = put_bytes(out, place, b"refused ");
-    let n = refusal::number(why);
-    if is_placed(n) {
-        return put_placed(out, first, n, refusal::place(why));
-    }
-    put_field(out, first, n as u32, b'\n')
-}
-
-fn put_end(out: &mut [u8], n: u32) -> usize
-    requires { 24 ≤ length out.old }
-    ensures { (result ≡ length (end_line n)) × (out.new ≡ overlay out.old 0 (end_line n)) }
-{
-    let first = put_bytes(out, 0, b"end ");
-    put_field(out, first, n, b'\n')
+    let mut line = Line::new();
+    append(&mut line, b"end ");
+    append_field(&mut line, n, b'\n');
+    line
 }
 
 fn byte_at(bytes: &[u8], i: usize) -> u8
     ensures { result ≡ get_or bytes.now i 0 }
 {
-    if i < bytes.len() { bytes[i] } else { 0 }
+    bytes.get(i).copied().unwrap_or(0)
 }
 
 // The line of a frame by its body.
-fn put_body(body: &[u8], out: &mut [u8], place: usize) -> usize
-    requires { place + 24 ≤ length out.old }
-    ensures { (result ≡ place + length (line_of (served body.now))) × (out.new ≡ overlay out.old place (line_of (served body.now))) }
+#[tactic(auto, unfolding(crate::specs::Program::line_of))]
+fn body_line(body: &[u8]) -> Line
+    ensures { result.items ≡ line_of (served body.now) }
 {
-    put_frame(
-        out,
-        place,
-        byte_at(body, 0),
-        byte_at(body, 1),
-        byte_at(body, 2),
-    )
+    frame_line(byte_at(body, 0), byte_at(body, 1), byte_at(body, 2))
 }
 
-fn put_part(frame: &[u8], n: usize, out: &mut [u8], place: usize) -> usize
-    requires { place + 24 ≤ length out.old }
-    ensures { (result ≡ place + length (line_of (served (take n frame.now)))) × (out.new ≡ overlay out.old place (line_of (served (take n frame.now)))) }
-{
-    if n < frame.len() {
-        return put_body(&frame[..n], out, place);
-    }
-    put_body(frame, out, place)
-}
-
-// The line of what a feeding call said, from a place on; answers the place after it.
-fn put_answer(answer: Answer, frame: &[u8], out: &mut [u8], place: usize) -> usize
-    requires { place + 24 ≤ length out.old }
-    ensures { (result ≡ place + length (said_line (paper_answer answer) frame.now)) × (out.new ≡ overlay out.old place (said_line (paper_answer answer) frame.now)) }
+// The line of what a feeding call said, none where that is nothing.
+#[tactic(auto, unfolding(crate::specs::Program::line_of))]
+fn answer_line(answer: Result<Option<usize>, Refusal>, frame: &[u8]) -> Line
+    ensures { result.items ≡ said_line (paper_answer answer) frame.now }
 {
     match answer {
-        Answer::Nothing => place,
-        Answer::Frame(n) => put_part(frame, n, out, place),
-        Answer::Refused(why) => put_refused(out, place, why),
+        Ok(None) => Line::new(),
+        Ok(Some(n)) => body_line(&frame[..n.min(frame.len())]),
+        Err(why) => refused_line(why),
     }
+}
+
+// Writes bytes from a place on, and answers the place after them.
+#[tactic(auto, unfolding(refusal::specs::Room::overlay))]
+fn put(bytes: &[u8], out: &mut [u8], place: usize) -> usize
+    requires { place + length bytes.now ≤ length out.old }
+    ensures { (result ≡ place + length bytes.now) × (out.new ≡ overlay out.old place bytes.now) }
+{
+    let end = place + bytes.len();
+    out[place..end].copy_from_slice(bytes);
+    end
 }
 
 // Whether a record is within its ranges: asking for its noise count is refused where it is not.
+#[tactic(auto, unfolding(receiver::specs::Calls::noise_of))]
 fn in_range(r: Receiver, store: &[u8]) -> bool
     ensures { result ≡ in_range (held r store.now) }
 {
-    match receiver::noise(r, store) {
-        NoiseCount::Count(_) => true,
-        NoiseCount::Refused(_) => false,
-    }
-}
-
-fn room_from(size: usize, place: usize) -> usize
-    ensures { result ≡ size - place }
-{
-    if size < place { 0 } else { size - place }
+    receiver::noise(r, store).is_ok()
 }
 
 #[derive(Clone, Copy)]
@@ -189,7 +167,7 @@ struct Listed {
 }
 
 // Hands a piece to the receiver, again and again, and lays the lines of the items one after the other from a place on: until the piece
-// is used up, or under 24 bytes of room are left.
+// is used up, or under 24 bytes of room are left. A turn passes the bytes that `feed` took, no fixed number.
 fn list(from: Receiver, store: &mut [u8], piece: &[u8], out: &mut [u8], place: usize) -> Listed
     requires { (in_range (held from store.old) ≡ true) × (place ≤ length out.old) }
     ensures { paper_listed result store.new out.new ≡ list_of (held from store.old) piece.now out.old place }
@@ -199,16 +177,16 @@ fn list(from: Receiver, store: &mut [u8], piece: &[u8], out: &mut [u8], place: u
     let mut taken: usize = 0;
     let mut filled = place;
     while taken < piece.len() {
-        if out.len() - filled < 24 {
+        if out.len() - filled < LINE {
             break;
         }
         let fed = receiver::feed(r, store, false, &piece[taken..], &mut frame);
         let next = fed.receiver;
         let more = fed.taken;
-        let answer = fed.answer;
         r = next;
         taken += more;
-        filled = put_answer(answer, &frame, out, filled);
+        let line = answer_line(fed.answer, &frame);
+        filled = put(line.as_slice(), out, filled);
     }
     Listed {
         receiver: r,
@@ -218,7 +196,7 @@ fn list(from: Receiver, store: &mut [u8], piece: &[u8], out: &mut [u8], place: u
 }
 
 // How far a listing is: the receiver, and how many bytes may still be read.
-#[derive(Clone, Copy)]
+#[derive(Clone, Copy, Debug, PartialEq, Eq)]
 pub struct Listing {
     pub receiver: Receiver,
     pub left: u32,
@@ -238,16 +216,15 @@ pub fn begin(fresh: Receiver) -> Listing
 pub fn wanted(left: u32, size: usize) -> usize
     ensures { result ≡ min left size }
 {
-    let most = left as usize;
-    if most < size { most } else { size }
+    size.min(left as usize)
 }
 
 // What a call of `fill` gives: how far the listing is, the bytes taken, and the place in the room after the text; or why it is refused.
-#[derive(Clone, Copy)]
+#[derive(Clone, Copy, Debug, PartialEq, Eq)]
 pub struct Filled {
     pub listing: Listing,
     pub taken: usize,
-    pub said: Written,
+    pub said: Result<usize, Refusal>,
 }
 
 // Takes bytes of a piece, and lays the lines of their items in the lent room from a place on: until the piece is used up, no more may be
@@ -261,14 +238,14 @@ pub fn fill(l: Listing, store: &mut [u8], piece: &[u8], out: &mut [u8], place: u
         return Filled {
             listing: l,
             taken: 0,
-            said: Written::Refused(Refusal::BadRecord),
+            said: Err(Refusal::BadRecord),
         };
     }
-    if room_from(out.len(), place) < 24 {
+    if out.len().saturating_sub(place) < LINE {
         return Filled {
             listing: l,
             taken: 0,
-            said: Written::Refused(Refusal::NoRoom),
+            said: Err(Refusal::NoRoom),
         };
     }
     let n = wanted(left, piece.len());
@@ -282,19 +259,18 @@ pub fn fill(l: Listing, store: &mut [u8], piece: &[u8], out: &mut [u8], place: u
             left: left - done as u32,
         },
         taken: done,
-        said: Written::Done(filled),
+        said: Ok(filled),
     }
 }
 
 // Lays the last line, with the bytes read, at the start of the lent room.
-pub fn end(l: Listing, out: &mut [u8]) -> Written
-    ensures { (paper_written result, out.new) ≡ emit (end_line (limit - l.left)) out.old }
+#[tactic(auto, unfolding(refusal::specs::Room::emit))]
+pub fn end(l: Listing, out: &mut [u8]) -> Result<usize, Refusal>
+    ensures { (answered result, out.new) ≡ emit (end_line (limit - l.left)) out.old }
 {
-    let mut text = [0u8; 24];
-    let n = put_end(&mut text, LIMIT - l.left);
-    if out.len() < n {
-        return Written::Refused(Refusal::NoRoom);
+    let line = end_line(LIMIT - l.left);
+    if out.len() < line.len() {
+        return Err(Refusal::NoRoom);
     }
-    put_bytes(out, 0, &text[..n]);
-    Written::Done(n)
+    Ok(put(line.as_slice(), out, 0))
 }

@@ -17,7 +17,8 @@ use Rattle.shdlc.specs.declared.Kind.TheVariants.{Request, Reply}
 use Rattle.receiver.specs.declared.Mode.{Mode}
 use Rattle.receiver.specs.declared.Mode.TheVariants.{Outside, Plain, Escaped, BadEscape, BareControl}
 use Rattle.receiver.specs.Record.{Record, number_of_mode, length_in_range, in_range}
-use Rattle.mfc.specs.Receivers.{number_of_kind, kind_at, mode_at, record_size, bytes_of, store_in, fields_in, record_in, feed_as, feed_record, noise_as, noise_record}
+use Rattle.shdlc.specs.Numbers.{number_of_kind}
+use Rattle.mfc.specs.Receivers.{kind_at, mode_at, record_size, bytes_of, store_in, fields_in, record_in, feed_as, feed_record, noise_as, noise_record}
 
 pub kind_back : (kind : Kind) → kind_at (number_of_kind kind) ≡ some kind
 kind_back Request = refl

@@ -18,7 +18,8 @@ use Rattle.receiver.specs.Series.{Call, marks, outcome, results, record_after, r
 use Rattle.receiver.proofs.Cases.{feed_room}
 use Rattle.receiver.proofs.EverySeries.{Sayable, AllSayable, all_sayable, demand3}
 use Rattle.mfc.specs.declared.answers.MfcFed.{MfcFed}
-use Rattle.mfc.specs.Receivers.{number_of_kind, record_size, bytes_of, fed, fresh_record, untouched, noise_told, noise_record}
+use Rattle.shdlc.specs.Numbers.{number_of_kind}
+use Rattle.mfc.specs.Receivers.{record_size, bytes_of, fed, fresh_record, untouched, noise_told, noise_record}
 use Rattle.mfc.specs.Series.{called, answers, bytes_after, told, refused_told, heard, heard_in, NoneTold2, left_told, HandsOver, begun, laid_in, SeriesOverBytes}
 use Rattle.mfc.proofs.Carried.{kind_back, in_range_lem, feed_again, noise-again}
 

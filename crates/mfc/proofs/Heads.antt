@@ -5,60 +5,99 @@ use mathlib.Core.List.{List, [], ◌∷◌, ◌++◌}
 use mathlib.Core.Option.{Option, none, some}
 use Prim.Native.Nat.{ℕ, zero, suc, ◌+◌, ◌*◌, ◌/◌, ◌%◌, ◌≤◌, ◌<◌}
 use native.Mathlib.Omega.{arith}
-use borrow.Author.Tests.{lt-ltb, le-ltb, ltb-false}
+use borrow.Author.Tests.{lt-ltb, le-ltb, ltb-false, ne_eqb}
 use lib.Dec.{ltb}
 use lib.ListN.{length, get_or, set, length-set}
-use Rattle.refusal.specs.Refusals.{number_of, place_by, paper, refused}
+use Rattle.std.specs.Prelude.{Ok, Err}
+use Rattle.refusal.specs.Refusals.{Numbered, number, paper, Answered, served, refused, answered}
 use Rattle.refusal.specs.Room.{overlay}
+use Rattle.refusal.proofs.Order.{refused_not_served}
 use Rattle.refusal.specs.declared.Refusal.{Refusal}
 use Rattle.shdlc.specs.declared.Kind.{Kind}
 use Rattle.shdlc.specs.declared.Kind.TheVariants.{Request, Reply}
 use Rattle.receiver.specs.declared.Mode.{Mode}
 use Rattle.receiver.specs.declared.Mode.TheVariants.{Outside, Plain, Escaped, BadEscape, BareControl}
 use Rattle.receiver.specs.declared.Receiver.{Receiver}
-use Rattle.receiver.specs.Record.{Record, held, number_of_mode}
-use Rattle.receiver.specs.Calls.{gave}
-use Rattle.mfc.specs.declared.answers.MfcFed.{MfcFed}
-use Rattle.mfc.specs.declared.answers.MfcNoise.{MfcNoise}
-use Rattle.mfc.specs.declared.receivers.KindAt.{KindAt}
-use Rattle.mfc.specs.declared.receivers.KindAt.TheVariants as kinds
-use Rattle.mfc.specs.declared.receivers.ModeAt.{ModeAt}
-use Rattle.mfc.specs.declared.receivers.ModeAt.TheVariants as modes
-use Rattle.mfc.specs.declared.receivers.Loaded.{Loaded}
-use Rattle.mfc.specs.declared.receivers.Loaded.TheVariants as loaded
-use Rattle.mfc.specs.Receivers.{nth, number_of_kind, kind_at, mode_at, record_size, count_bytes, head_of, length_in, count_in, store_in, fields_of, fields_in, paper_kind, paper_mode, paper_loaded, fed, noise_told}
+use Rattle.receiver.specs.Record.{Record, held, number_of_mode, mode_numbered}
+use Rattle.shdlc.specs.Numbers.{number_of_kind, kind_numbered}
+use Rattle.mfc.specs.Receivers.{kind_at, mode_at, record_size, count_bytes, head_of, length_in, count_in, store_in, fields_of, fields_in, loaded}
 
--- past the end of a list nothing stands
-pub nth_past : {A : Type 0} (xs : List A) (n : ℕ) → length xs ≤ n → nth xs n ≡ none
-nth_past [] n h = refl
-nth_past (x ∷ xs) zero h = absurd (omega arith)
-nth_past (x ∷ xs) (suc n) h = nth_past xs n (omega arith)
+-- the code finds the kind and the mode of a number, and 2 of any other number
+pub kind_found : (n : ℕ) → answered (kind_numbered n) ≡ loaded (kind_at n)
+kind_found zero = refl
+kind_found (suc zero) = refl
+kind_found (suc (suc n)) = rw (ne_eqb (suc (suc n)) 0 (λ e. omega arith), ne_eqb (suc (suc n)) 1 (λ e. omega arith)) refl
+
+mode_found : (n : ℕ) → answered (mode_numbered n) ≡ loaded (mode_at n)
+mode_found zero = refl
+mode_found (suc zero) = refl
+mode_found (suc (suc zero)) = refl
+mode_found (suc (suc (suc zero))) = refl
+mode_found (suc (suc (suc (suc zero)))) = refl
+mode_found (suc (suc (suc (suc (suc n))))) =
+    let m : ℕ = suc (suc (suc (suc (suc n)))) in
+    rw (ne_eqb m 0 (λ e. omega arith), ne_eqb m 1 (λ e. omega arith), ne_eqb m 2 (λ e. omega arith), ne_eqb m 3 (λ e. omega arith), ne_eqb m 4 (λ e. omega arith)) refl
+
+-- fields whose kind or mode is refused, and those that are there
+module _ (len noise : ℕ) (store : List ℕ) where
+  no_kind : {n : Numbered} (k : Option Kind) (m : Option Mode) → ◌≡◌ {A = Answered Kind} (refused n) (loaded k)
+      → ◌≡◌ {A = Answered Record} (refused n) (loaded (fields_of k m len noise store))
+  no_kind none m e = let z : ◌≡◌ {A = Numbered} _ (number 2) = cc in ap refused z
+  no_kind (some kind) m e = absurd (refused_not_served e)
+
+  no_mode : {n : Numbered} {kind : Kind} (k : Option Kind) (m : Option Mode) → ◌≡◌ {A = Answered Kind} (served kind) (loaded k)
+      → ◌≡◌ {A = Answered Mode} (refused n) (loaded m) → ◌≡◌ {A = Answered Record} (refused n) (loaded (fields_of k m len noise store))
+  no_mode none m f e = absurd (refused_not_served (sym f))
+  no_mode (some kind) none f e = let z : ◌≡◌ {A = Numbered} _ (number 2) = cc in ap refused z
+  no_mode (some kind) (some mode) f e = absurd (refused_not_served e)
+
+  both : {kind : Kind} {mode : Mode} (k : Option Kind) (m : Option Mode) → ◌≡◌ {A = Answered Kind} (served kind) (loaded k)
+      → ◌≡◌ {A = Answered Mode} (served mode) (loaded m)
+      → ◌≡◌ {A = Answered Record} (served (record { kind = kind; mode = mode; len = len; noise = noise; store = store }))
+      (loaded (fields_of k m len noise store))
+  both none m f g = absurd (refused_not_served (sym f))
+  both (some kind) none f g = absurd (refused_not_served (sym g))
+  both {kind = k} {mode = m} (some kind) (some mode) f g =
+      let e : k ≡ kind = cc in
+      let h : m ≡ mode = cc in
+      rw (e, h) refl
 
 -- loading: each `return`
 module _ (lent : List ℕ) where
-  pub load_short : length lent < record_size → none ≡ fields_in lent
+  pub load_short : length lent < record_size → ◌≡◌ {A = Answered Record} (refused (number 2)) (loaded (fields_in lent))
   unfolding fields_in
-  load_short h = rw (lt-ltb (length lent) record_size h)
+  load_short h = rw (lt-ltb (length lent) record_size h) refl
 
   module _ (long : record_size ≤ length lent) where
-    pub load_kind : {k : KindAt} → paper_kind k ≡ kind_at (get_or lent 0 0) → k ≡ kinds.Unknown → none ≡ fields_in lent
+    fields : fields_in lent ≡ fields_of (kind_at (get_or lent 0 0)) (mode_at (get_or lent 1 0)) (length_in lent) (count_in lent) (store_in lent)
     unfolding fields_in
-    load_kind e is =
-        rw (le-ltb (length lent) record_size long)
-        (ap (λ (o : Option Kind). fields_of o (mode_at (get_or lent 1 0)) (length_in lent) (count_in lent) (store_in lent)) (sym (ap paper_kind is) ∙ e))
+    fields = rw (le-ltb (length lent) record_size long) refl
 
-    module _ {k : KindAt} {kind : Kind} (e : paper_kind k ≡ kind_at (get_or lent 0 0)) (is : k ≡ kinds.Known kind) where
-      pub load_mode : {m : ModeAt} → paper_mode m ≡ mode_at (get_or lent 1 0) → m ≡ modes.Unknown → none ≡ fields_in lent
-      unfolding fields_in
-      load_mode f on =
-          rw (le-ltb (length lent) record_size long, ← e, is, ← f, on)
+    pub load_kind : {why : Refusal} → Err why ≡ kind_numbered (get_or lent 0 0)
+        → ◌≡◌ {A = Answered Record} (refused (paper why)) (loaded (fields_in lent))
+    load_kind e =
+        no_kind (length_in lent) (count_in lent) (store_in lent) (kind_at (get_or lent 0 0)) (mode_at (get_or lent 1 0))
+        (ap answered e ∙ kind_found (get_or lent 0 0))
+        ∙ sym (ap loaded fields)
 
-      pub load_held : {m : ModeAt} {mode : Mode} {len noise : ℕ} → paper_mode m ≡ mode_at (get_or lent 1 0) → m ≡ modes.Known mode
-          → len ≡ length_in lent → noise ≡ count_in lent
-          → some (record { kind = kind; mode = mode; len = len; noise = noise; store = store_in lent }) ≡ fields_in lent
-      unfolding fields_in
-      load_held f on g n =
-          rw (le-ltb (length lent) record_size long, ← e, is, ← f, on, g, n)
+    module _ {kind : Kind} (e : Ok kind ≡ kind_numbered (get_or lent 0 0)) where
+      pub load_mode : {why : Refusal} → Err why ≡ mode_numbered (get_or lent 1 0)
+          → ◌≡◌ {A = Answered Record} (refused (paper why)) (loaded (fields_in lent))
+      load_mode f =
+          no_mode (length_in lent) (count_in lent) (store_in lent) (kind_at (get_or lent 0 0)) (mode_at (get_or lent 1 0))
+          (ap answered e ∙ kind_found (get_or lent 0 0))
+          (ap answered f ∙ mode_found (get_or lent 1 0))
+          ∙ sym (ap loaded fields)
+
+      pub load_held : {mode : Mode} {len noise : ℕ} → Ok mode ≡ mode_numbered (get_or lent 1 0) → len ≡ length_in lent → noise ≡ count_in lent
+          → ◌≡◌ {A = Answered Record} (served (record { kind = kind; mode = mode; len = len; noise = noise; store = store_in lent }))
+          (loaded (fields_in lent))
+      load_held f g h =
+          rw (g, h)
+          (both (length_in lent) (count_in lent) (store_in lent) (kind_at (get_or lent 0 0)) (mode_at (get_or lent 1 0))
+          (ap answered e ∙ kind_found (get_or lent 0 0))
+          (ap answered f ∙ mode_found (get_or lent 1 0))
+          ∙ sym (ap loaded fields))
 
 -- a number by which a kind or a mode is found is its own
 kind_number_lem : (n : ℕ) (kind : Kind) → kind_at n ≡ some kind → number_of_kind kind ≡ n
@@ -108,14 +147,18 @@ spells lent r = go (ltb (length lent) record_size) (kind_at (get_or lent 0 0)) (
         }
 
 -- what was loaded is what the bytes hold
-pub holds : (lent : List ℕ) {l is : Loaded} → paper_loaded l (store_in lent) ≡ fields_in lent → l ≡ is → paper_loaded is (store_in lent) ≡ fields_in lent
-holds lent e f = sym (ap (λ (x : Loaded). paper_loaded x (store_in lent)) f) ∙ e
+pub holds : (lent : List ℕ) {r : Receiver} → served (held r (store_in lent)) ≡ loaded (fields_in lent) → some (held r (store_in lent)) ≡ fields_in lent
+holds lent {r} = go (fields_in lent)
+  where
+    go : (o : Option Record) → served (held r (store_in lent)) ≡ loaded o → some (held r (store_in lent)) ≡ o
+    go none e = absurd (refused_not_served (sym e))
+    go (some x) e = let z : held r (store_in lent) ≡ x = cc in ap some z
 
-pub loaded_long : (lent : List ℕ) {l : Loaded} {r : Receiver} → paper_loaded l (store_in lent) ≡ fields_in lent → l ≡ loaded.Held r → record_size ≤ length lent
-loaded_long lent {l} {r} e is = (spells lent (held r (store_in lent)) (holds lent e is)).long
+pub loaded_long : (lent : List ℕ) {r : Receiver} → served (held r (store_in lent)) ≡ loaded (fields_in lent) → record_size ≤ length lent
+loaded_long lent {r} e = (spells lent (held r (store_in lent)) (holds lent e)).long
 
-pub loaded_noise : (lent : List ℕ) {l : Loaded} {r : Receiver} → paper_loaded l (store_in lent) ≡ fields_in lent → l ≡ loaded.Held r → r.noise ≡ count_in lent
-loaded_noise lent {l} {r} e is = (spells lent (held r (store_in lent)) (holds lent e is)).noise
+pub loaded_noise : (lent : List ℕ) {r : Receiver} → served (held r (store_in lent)) ≡ loaded (fields_in lent) → r.noise ≡ count_in lent
+loaded_noise lent {r} e = (spells lent (held r (store_in lent)) (holds lent e)).noise
 
 -- what holds of eight bytes and any others after them
 pub by_eight : (P : List ℕ → Type 0)
@@ -130,38 +173,15 @@ by_eight P p (s ∷ t ∷ u ∷ v ∷ w ∷ x ∷ []) h = absurd (omega arith)
 by_eight P p (s ∷ t ∷ u ∷ v ∷ w ∷ x ∷ y ∷ []) h = absurd (omega arith)
 by_eight P p (s ∷ t ∷ u ∷ v ∷ w ∷ x ∷ y ∷ z ∷ rest) h = p s t u v w x y z rest
 
--- three stores after the first byte
-three : (l : List ℕ) (b c d : ℕ) → 4 ≤ length l → set (set (set l 1 b) 2 c) 3 d ≡ overlay l 1 (b ∷ c ∷ d ∷ [])
-unfolding overlay
-three [] b c d h = absurd (omega arith)
-three (x ∷ []) b c d h = absurd (omega arith)
-three (x ∷ y ∷ []) b c d h = absurd (omega arith)
-three (x ∷ y ∷ z ∷ []) b c d h = absurd (omega arith)
-three (x ∷ y ∷ z ∷ w ∷ l) b c d h = refl
-
 -- a record's mode and length, as its bytes have them after the kind
 abbrev pub place_of : Mode → ℕ → List ℕ
 place_of mode len = number_of_mode mode ∷ len / 256 % 256 ∷ len % 256 ∷ []
-
-pub place_put : (l : List ℕ) (r : Receiver) {b c d : ℕ} {mid : List ℕ} → 4 ≤ length l → b ≡ number_of_mode r.mode → mid ≡ set l 1 b
-    → c ≡ r.len / 256 % 256 → d ≡ r.len % 256
-    → set (set mid 2 c) 3 d ≡ overlay l 1 (place_of r.mode r.len)
-place_put l r h e m f g = rw (m, e, f, g) (three l (number_of_mode r.mode) (r.len / 256 % 256) (r.len % 256) h)
 
 -- a mode that stands already
 pub mode_same : (l : List ℕ) (n : ℕ) → 2 ≤ length l → get_or l 1 0 ≡ n → l ≡ set l 1 n
 mode_same [] n h e = absurd (omega arith)
 mode_same (x ∷ []) n h e = absurd (omega arith)
 mode_same (x ∷ y ∷ l) n h e = ap (λ (v : ℕ). x ∷ v ∷ l) e
-
--- a count of noise bytes is put by four stores
-pub noise-put : (l : List ℕ) (n : ℕ) {a b c d : ℕ} → 8 ≤ length l
-    → a ≡ n / 16777216 % 256 → b ≡ n / 65536 % 256 → c ≡ n / 256 % 256 → d ≡ n % 256
-    → set (set (set (set l 4 a) 5 b) 6 c) 7 d ≡ overlay l 4 (count_bytes n)
-unfolding overlay
-noise-put l n {a} {b} {c} {d} h e f g i =
-    by_eight (λ (k : List ℕ). set (set (set (set k 4 a) 5 b) 6 c) 7 d ≡ overlay k 4 (count_bytes n))
-    (λ s t u v w x y z rest. rw (e, f, g, i)) l h
 
 -- the bytes of a number
 pub high_back : (n a b : ℕ) → n ≡ a * 256 + b → a < 256 → b < 256 → n / 256 % 256 ≡ a
@@ -215,11 +235,3 @@ head_put l r {a} h e f g =
     (λ (k : List ℕ).
     overlay (set k 0 a) 1 (place_of r.mode r.len ++ count_bytes r.noise) ≡ overlay k 0 (head_of r.kind r.mode r.len r.noise))
     (λ s t u v w x y z rest. rw e) l h
-
-pub fed_refused : (r : Refusal) (taken : ℕ) {n p : ℕ} → n ≡ number_of r → p ≡ place_by (paper r)
-    → ◌≡◌ {A = MfcFed} (record { refusal = n; place = p; frame_length = 0; taken = taken }) (fed (gave (refused (paper r))) taken)
-fed_refused r taken e f = rw (e, f)
-
-pub noise_refused : (r : Refusal) {n : ℕ} → n ≡ number_of r
-    → ◌≡◌ {A = MfcNoise} (record { refusal = n; count = 0 }) (noise_told (refused (paper r)))
-noise_refused r e = rw e

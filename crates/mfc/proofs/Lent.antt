@@ -9,29 +9,23 @@ use borrow.Author.Tests.{lt-ltb, le-ltb, ltb-true}
 use lib.Dec.{ltb}
 use lib.ListN.{length, get_or, take, drop, replicate, length-append, length-take, length-drop, length-replicate, take-append-drop}
 use lib.Seq.{take_all, drop_at, drop-drop}
-use Rattle.refusal.specs.Refusals.{number, number_of, paper, Answered, served, refused}
+use Rattle.std.specs.Prelude.{Result, Ok, Err}
+use Rattle.refusal.specs.Refusals.{Numbered, number, Answered, served, refused, answered, answered_as}
 use Rattle.refusal.specs.Room.{overlay}
 use Rattle.refusal.specs.declared.Refusal.{Refusal}
-use Rattle.refusal.specs.declared.Refusal.TheVariants.{NoRoom, OutOfRange, BadRecord}
 use Rattle.refusal.proofs.Order.{refused_not_served}
 use Rattle.refusal.proofs.Room.{overlay_all}
 use Rattle.shdlc.specs.declared.Kind.{Kind}
+use Rattle.shdlc.specs.Numbers.{number_of_kind, kind_numbered}
 use Rattle.receiver.specs.declared.Receiver.{Receiver}
 use Rattle.receiver.specs.declared.Fed.{Fed}
-use Rattle.receiver.specs.declared.NoiseCount.{NoiseCount}
-use Rattle.receiver.specs.declared.Made.{Made}
-use Rattle.receiver.specs.declared.Made.TheVariants as made
 use Rattle.receiver.specs.Record.{Record, held, number_of_mode, in_range, fresh}
-use Rattle.receiver.specs.Calls.{gave, Outcome, paper_answer, paper_fed, paper_made, paper_noise, fresh_of, refused_call, feed_of, noise_of}
+use Rattle.receiver.specs.Calls.{gave, Outcome, paper_answer, paper_fed, fresh_of, refused_call, feed_of, noise_of}
 use Rattle.receiver.proofs.Cases.{feed_range, feed_room, kind_fed}
 use Rattle.mfc.specs.declared.answers.MfcFed.{MfcFed}
 use Rattle.mfc.specs.declared.answers.MfcNoise.{MfcNoise}
-use Rattle.mfc.specs.declared.receivers.KindAt.{KindAt}
-use Rattle.mfc.specs.declared.receivers.KindAt.TheVariants as kinds
-use Rattle.mfc.specs.declared.receivers.Loaded.{Loaded}
-use Rattle.mfc.specs.declared.receivers.Loaded.TheVariants as loaded
-use Rattle.mfc.specs.Receivers.{number_of_kind, kind_at, record_size, count_bytes, head_of, bytes_of, count_in, store_in, fields_in, ranged, record_in, paper_kind, paper_loaded, fed, fresh_as, fresh_record, fed_bytes, untouched, feed_as, feed_record, noise_told, noise_as, noise_record}
-use Rattle.mfc.proofs.Heads.{place_of, by_eight, high_back, low-back, noise-back, Spells, spells, holds}
+use Rattle.mfc.specs.Receivers.{kind_at, record_size, count_bytes, head_of, bytes_of, count_in, store_in, fields_in, ranged, record_in, loaded, fed, fresh_as, fresh_record, fed_bytes, untouched, feed_as, feed_record, noise_told, noise_as, noise_record}
+use Rattle.mfc.proofs.Heads.{place_of, by_eight, high_back, low-back, noise-back, Spells, spells, holds, kind_found}
 
 -- the lent bytes with another store
 abbrev pub stored : List ℕ → List ℕ → List ℕ
@@ -121,40 +115,51 @@ module _ (lent : List ℕ) (byte : (i : ℕ) → get_or lent i 0 < 256) (r : Rec
         ∙ feed_cases (in_range r)
         ∙ ap (λ (o : Option Record). feed_as (ranged o) lent silence piece frame) e
 
--- the returns of the two calls on a record
-module _ (lent : List ℕ) {l : Loaded} (e : paper_loaded l (store_in lent) ≡ fields_in lent) where
-  -- a call that leaves the kind leaves the first byte
-  kind_stays : {r : Receiver} {kind : Kind} → l ≡ loaded.Held r → kind ≡ r.kind → number_of_kind kind ≡ get_or lent 0 0
-  kind_stays {r} is f = ap number_of_kind f ∙ (spells lent (held r (store_in lent)) (holds lent e is)).kind
+-- what is not loaded is 2
+bad : {A : Type 0} {n : Numbered} (o : Option A) → ◌≡◌ {A = Answered A} (refused n) (loaded o) → (none ≡ o) × (n ≡ number 2)
+bad none e = (refl, (let z : ◌≡◌ {A = Numbered} _ (number 2) = cc in z))
+bad (some x) e = absurd (refused_not_served e)
 
-  module _ (silence : Bool) (piece frame : List ℕ) where
-    pub feed_bad : {result : MfcFed} → l ≡ loaded.BadRecord → result ≡ fed (gave (refused (paper BadRecord))) 0
-        → (result, lent, frame) ≡ feed_record lent silence piece frame
-    unfolding feed_record record_in
-    feed_bad is r =
-        ap (λ (x : MfcFed). (x, lent, frame)) r ∙ ap (λ (o : Option Record). feed_as (ranged o) lent silence piece frame) (holds lent e is)
+-- the returns of the two calls on a record that is not loaded
+module _ (lent : List ℕ) {n : Numbered} (e : ◌≡◌ {A = Answered Record} (refused n) (loaded (fields_in lent))) where
+  pub feed_bad : {result : MfcFed} (silence : Bool) (piece frame : List ℕ) → result ≡ fed (gave (refused n)) 0
+      → (result, lent, frame) ≡ feed_record lent silence piece frame
+  unfolding feed_record record_in
+  feed_bad silence piece frame r =
+      let b = bad (fields_in lent) e in
+      ap (λ (x : MfcFed). (x, lent, frame)) (r ∙ ap (λ (m : Numbered). fed (gave (refused m)) 0) b.1)
+      ∙ ap (λ (o : Option Record). feed_as (ranged o) lent silence piece frame) b.0
 
-    pub feed_held : (f : Fed) {r : Receiver} {store after bytes : List ℕ} {result : MfcFed} → ((i : ℕ) → get_or lent i 0 < 256)
-        → record_size ≤ length lent → l ≡ loaded.Held r
-        → length store ≡ length (store_in lent)
-        → paper_fed f store after ≡ feed_of (held r (store_in lent)) silence piece frame
-        → bytes ≡ overlay (stored lent store) 1 (tail_of f.receiver)
-        → result ≡ fed (paper_answer f.answer) f.taken
-        → (result, bytes, after) ≡ feed_record lent silence piece frame
-    feed_held f {r} {store} {after} byte long is size g b w =
-        let k = kind_stays is (kind_fed f store after (held r (store_in lent)) silence piece frame g) in
-        rw (w, b, placed lent store f.receiver k long (size ∙ store_size lent long))
-        (ap (λ (o : Outcome). fed_bytes o lent) g ∙ feed_fields lent byte (held r (store_in lent)) (holds lent e is) silence piece frame)
-
-  pub noise_bad : {result : MfcNoise} → l ≡ loaded.BadRecord → result ≡ noise_told (refused (paper BadRecord)) → result ≡ noise_record lent
+  pub noise_bad : {result : MfcNoise} → result ≡ noise_told (refused n) → result ≡ noise_record lent
   unfolding noise_record record_in
-  noise_bad is r = r ∙ ap (λ (o : Option Record). noise_as (ranged o)) (holds lent e is)
+  noise_bad r =
+      let b = bad (fields_in lent) e in
+      r ∙ ap (λ (m : Numbered). noise_told (refused m)) b.1 ∙ ap (λ (o : Option Record). noise_as (ranged o)) b.0
 
-  pub noise-held : (n : NoiseCount) {r : Receiver} {result : MfcNoise} → l ≡ loaded.Held r → paper_noise n ≡ noise_of (held r (store_in lent))
-      → result ≡ noise_told (paper_noise n) → result ≡ noise_record lent
+-- and of those on one that is
+module _ (lent : List ℕ) {r : Receiver} (e : served (held r (store_in lent)) ≡ loaded (fields_in lent)) where
+  -- a call that leaves the kind leaves the first byte
+  kind_stays : {kind : Kind} → kind ≡ r.kind → number_of_kind kind ≡ get_or lent 0 0
+  kind_stays f = ap number_of_kind f ∙ (spells lent (held r (store_in lent)) (holds lent e)).kind
+
+  pub feed_held : (silence : Bool) (piece frame : List ℕ) (f : Fed) {store after bytes : List ℕ} {result : MfcFed}
+      → ((i : ℕ) → get_or lent i 0 < 256)
+      → record_size ≤ length lent
+      → length store ≡ length (store_in lent)
+      → paper_fed f store after ≡ feed_of (held r (store_in lent)) silence piece frame
+      → bytes ≡ overlay (stored lent store) 1 (tail_of f.receiver)
+      → result ≡ fed (paper_answer f.answer) f.taken
+      → (result, bytes, after) ≡ feed_record lent silence piece frame
+  feed_held silence piece frame f {store} {after} byte long size g b w =
+      let k = kind_stays (kind_fed f store after (held r (store_in lent)) silence piece frame g) in
+      rw (w, b, placed lent store f.receiver k long (size ∙ store_size lent long))
+      (ap (λ (o : Outcome). fed_bytes o lent) g ∙ feed_fields lent byte (held r (store_in lent)) (holds lent e) silence piece frame)
+
+  pub noise-held : (n : Result ℕ Refusal) {result : MfcNoise} → answered n ≡ noise_of (held r (store_in lent))
+      → result ≡ noise_told (answered n) → result ≡ noise_record lent
   unfolding noise_record record_in noise_of
-  noise-held n {r} is g w =
-      w ∙ ap noise_told g ∙ go (in_range (held r (store_in lent))) ∙ ap (λ (o : Option Record). noise_as (ranged o)) (holds lent e is)
+  noise-held n g w =
+      w ∙ ap noise_told g ∙ go (in_range (held r (store_in lent))) ∙ ap (λ (o : Option Record). noise_as (ranged o)) (holds lent e)
     where
       go : (t : Bool) → noise_told (cond t (served r.noise) (refused (number 2))) ≡ noise_as (cond t (some (held r (store_in lent))) none)
       go true = refl
@@ -162,21 +167,22 @@ module _ (lent : List ℕ) {l : Loaded} (e : paper_loaded l (store_in lent) ≡ 
 
 -- a fresh record
 module _ (kind : ℕ) (lent : List ℕ) where
-  pub fresh_short : {result : ℕ} → length lent < record_size → result ≡ number_of NoRoom → (result, lent) ≡ fresh_record kind lent
+  pub fresh_short : length lent < record_size → ◌≡◌ {A = ℕ × List ℕ} (1, lent) (fresh_record kind lent)
   unfolding fresh_record
-  fresh_short h r = rw (lt-ltb (length lent) record_size h) (ap (λ (x : ℕ). (x, lent)) r)
+  fresh_short h = rw (lt-ltb (length lent) record_size h) refl
 
-  module _ (long : record_size ≤ length lent) {k : KindAt} (e : paper_kind k ≡ kind_at kind) where
-    as_kind : {is : KindAt} → k ≡ is → fresh_as (paper_kind is) lent ≡ fresh_record kind lent
+  module _ (long : record_size ≤ length lent) where
+    as_kind : fresh_as (kind_at kind) lent ≡ fresh_record kind lent
     unfolding fresh_record
-    as_kind f =
-        rw (le-ltb (length lent) record_size long) (ap (λ (o : Option Kind). fresh_as o lent) (sym (ap paper_kind f) ∙ e))
+    as_kind = rw (le-ltb (length lent) record_size long) refl
 
-    pub fresh_kind : {result : ℕ} → k ≡ kinds.Unknown → result ≡ number_of OutOfRange → (result, lent) ≡ fresh_record kind lent
-    fresh_kind f r = ap (λ (x : ℕ). (x, lent)) r ∙ as_kind f
+    pub fresh_kind : {why : Refusal} → Err why ≡ kind_numbered kind → ◌≡◌ {A = ℕ × List ℕ} (12, lent) (fresh_record kind lent)
+    fresh_kind e =
+        ap (λ (o : Option Kind). fresh_as o lent) (bad (kind_at kind) (ap answered e ∙ kind_found kind)).0 ∙ as_kind
 
-    module _ {known : Kind} (is : k ≡ kinds.Known known) (m : Made) {store : List ℕ} (Made-so : (paper_made m store, store) ≡ fresh_of known (store_in lent)) where
-      served_so : ◌≡◌ {A = Answered Record × List ℕ} (paper_made m store, store) (served (fresh known), replicate 260 0)
+    module _ {known : Kind} (is : Ok known ≡ kind_numbered kind) (m : Result Receiver Refusal) {store : List ℕ}
+        (Made-so : (answered_as (λ r. held r (take 260 store)) m, store) ≡ fresh_of known (store_in lent)) where
+      served_so : ◌≡◌ {A = Answered Record × List ℕ} (answered_as (λ r. held r (take 260 store)) m, store) (served (fresh known), replicate 260 0)
       unfolding fresh_of
       served_so =
           let size : length (store_in lent) ≡ 260 = store_size lent long in
@@ -184,18 +190,25 @@ module _ (kind : ℕ) (lent : List ℕ) where
           let all : length zeros ≡ length (store_in lent) = length-replicate {A = ℕ} 260 0 ∙ sym size in
           Made-so ∙ rw (le-ltb (length (store_in lent)) 260 (omega arith), overlay_all (store_in lent) zeros all)
 
-      pub fresh-made : {r : Receiver} {bytes : List ℕ} → m ≡ made.Fresh r
+      known_so : some known ≡ kind_at kind
+      known_so = go (kind_at kind) (ap answered is ∙ kind_found kind)
+        where
+          go : (o : Option Kind) → served known ≡ loaded o → some known ≡ o
+          go none e = absurd (refused_not_served (sym e))
+          go (some x) e = let z : known ≡ x = cc in ap some z
+
+      pub fresh-made : {r : Receiver} {bytes : List ℕ} → m ≡ Ok r
           → bytes ≡ overlay (stored lent store) 0 (head_of r.kind r.mode r.len r.noise) → (0, bytes) ≡ fresh_record kind lent
       fresh-made {r} {bytes} f b =
           let size : length store ≡ 260 = ap (λ (o : Answered Record × List ℕ). length o.1) served_so in
           let all : store ≡ take 260 store = sym (take_all 260 store (omega arith)) in
-          let same : served (held r (take 260 store)) ≡ served (fresh known) = sym (ap (λ (x : Made). paper_made x store) f) ∙ ap (λ (o : Answered Record × List ℕ). o.0) served_so in
+          let same : served (held r (take 260 store)) ≡ served (fresh known) = sym (ap (λ (x : Result Receiver Refusal). answered_as (λ r. held r (take 260 store)) x) f) ∙ ap (λ (o : Answered Record × List ℕ). o.0) served_so in
           let part : held r (take 260 store) ≡ fresh known = cc in
           let is-it : held r store ≡ fresh known = ap (held r) all ∙ part in
           let whole : bytes ≡ overlay lent 0 (bytes_of (held r store)) = b ∙ laid lent store (head_of r.kind r.mode r.len r.noise) refl long size in
           rw whole
-          (◌∙◌ {b = fresh_as (paper_kind (kinds.Known known)) lent} (ap (λ (x : Record). (0, overlay lent 0 (bytes_of x))) is-it) (as_kind is))
+          (ap (λ (x : Record). (0, overlay lent 0 (bytes_of x))) is-it ∙ ap (λ (o : Option Kind). fresh_as o lent) known_so ∙ as_kind)
 
-      pub fresh_never : {why : Refusal} → m ≡ made.Refused why → ⊥
+      pub fresh_never : {why : Refusal} → m ≡ Err why → ⊥
       fresh_never f =
-          refused_not_served (sym (ap (λ (x : Made). paper_made x store) f) ∙ ap (λ (o : Answered Record × List ℕ). o.0) served_so)
+          refused_not_served (sym (ap (λ (x : Result Receiver Refusal). answered_as (λ r. held r (take 260 store)) x) f) ∙ ap (λ (o : Answered Record × List ℕ). o.0) served_so)

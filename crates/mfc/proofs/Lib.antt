@@ -1,8 +1,4 @@
 -- Laws that the proofs use.
-pub mod Told
-pub mod Structs
-pub mod Listed
-pub mod Numbered
 pub mod Heads
 pub mod Lent
 pub mod Replying

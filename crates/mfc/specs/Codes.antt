@@ -1,16 +1,15 @@
 -- The C interface, I2C commands: the codes are 01's numbers, and one that 01 does not list is 12. An argument beside a code that takes none
 -- is not looked at.
-use Rattle.std.specs.Prelude.{ℕ, cond, List, [], ◌∷◌}
+use Rattle.std.specs.Prelude.{ℕ, cond, List, [], ◌∷◌, Some, None}
+use Rattle.std.specs.Prelude.{Option as Maybe}
 use Rattle.std.proofs.Math.Option.{Option, none, some}
 use Rattle.refusal.specs.Refusals.{number, refused}
 use Rattle.sfc6.specs.Commands.{member}
 use Rattle.refusal.specs.Room.{emit}
 use Rattle.i2c.specs.Command.{Asked, alone, ◌taking◌, asked, pair, write_sfc6, liquid_bytes}
 use Rattle.mfc.specs.declared.answers.MfcWritten.{MfcWritten}
-use Rattle.mfc.specs.declared.words.Sfc6Code.{Sfc6Code}
-use Rattle.mfc.specs.declared.words.Sfc6Code.TheVariants as sfc6
-use Rattle.mfc.specs.declared.words.LiquidCode.{LiquidCode}
-use Rattle.mfc.specs.declared.words.LiquidCode.TheVariants as liquid
+use Rattle.i2c.specs.declared.command.Sfc6.{Sfc6}
+use Rattle.i2c.specs.declared.command.Liquid.{Liquid}
 use Rattle.mfc.specs.Answers.{written, beside}
 
 -- 01, Words on I2C: "The codes that can be asked for, and no others": those alone, and those that take the concentration
@@ -37,14 +36,14 @@ abbrev pub liquid_for : ℕ → ℕ → Option (List ℕ)
 liquid_for code value =
     cond (member code register_writes) (some (code ∷ pair value)) (cond (member code one_byte) (some (code ∷ [])) none)
 
--- the code's enums in these words
-abbrev pub paper_sfc6 : Sfc6Code → Option Asked
-paper_sfc6 (sfc6.Listed command) = some (asked command)
-paper_sfc6 sfc6.Unlisted = none
+-- the commands of the code in these words
+abbrev pub paper_sfc6 : Maybe Sfc6 → Option Asked
+paper_sfc6 (Some command) = some (asked command)
+paper_sfc6 None = none
 
-abbrev pub paper_liquid : LiquidCode → Option (List ℕ)
-paper_liquid (liquid.Listed command) = some (liquid_bytes command)
-paper_liquid liquid.Unlisted = none
+abbrev pub paper_liquid : Maybe Liquid → Option (List ℕ)
+paper_liquid (Some command) = some (liquid_bytes command)
+paper_liquid None = none
 
 -- 01, Refusal numbers: "I2C writers 16, 12, 1"
 abbrev pub write_asked : Option Asked → List ℕ → MfcWritten × List ℕ

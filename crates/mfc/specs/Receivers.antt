@@ -7,18 +7,13 @@ use Rattle.refusal.specs.Refusals.{number, number_in, place_by, Answered, served
 use Rattle.refusal.specs.Room.{overlay}
 use Rattle.shdlc.specs.declared.Kind.{Kind}
 use Rattle.shdlc.specs.declared.Kind.TheVariants.{Request, Reply}
+use Rattle.shdlc.specs.Numbers.{number_of_kind}
 use Rattle.receiver.specs.declared.Mode.{Mode}
 use Rattle.receiver.specs.declared.Mode.TheVariants.{Outside, Plain, Escaped, BadEscape, BareControl}
-use Rattle.receiver.specs.Record.{Record, held, number_of_mode, in_range, fresh}
+use Rattle.receiver.specs.Record.{Record, number_of_mode, in_range, fresh}
 use Rattle.receiver.specs.Calls.{Said, nothing, gave, Outcome, feed_of}
 use Rattle.mfc.specs.declared.answers.MfcFed.{MfcFed}
 use Rattle.mfc.specs.declared.answers.MfcNoise.{MfcNoise}
-use Rattle.mfc.specs.declared.receivers.KindAt.{KindAt}
-use Rattle.mfc.specs.declared.receivers.KindAt.TheVariants as kinds
-use Rattle.mfc.specs.declared.receivers.ModeAt.{ModeAt}
-use Rattle.mfc.specs.declared.receivers.ModeAt.TheVariants as modes
-use Rattle.mfc.specs.declared.receivers.Loaded.{Loaded}
-use Rattle.mfc.specs.declared.receivers.Loaded.TheVariants as loaded
 
 -- what stands at a place of a list, counted from 0
 abbrev pub nth : {A : Type 0} → List A → ℕ → Option A
@@ -27,10 +22,6 @@ nth (x ∷ xs) zero = some x
 nth (x ∷ xs) (suc n) = nth xs n
 
 -- the kinds by number: 0 request, 1 reply
-abbrev pub number_of_kind : Kind → ℕ
-number_of_kind Request = 0
-number_of_kind Reply = 1
-
 abbrev pub kind_at : ℕ → Option Kind
 kind_at n = nth (Request ∷ Reply ∷ []) n
 
@@ -80,18 +71,10 @@ ranged (some r) = cond (in_range r) (some r) none
 unfoldable pub record_in : List ℕ → Option Record
 record_in lent = ranged (fields_in lent)
 
--- the enums of the code in these words
-abbrev pub paper_kind : KindAt → Option Kind
-paper_kind (kinds.Known kind) = some kind
-paper_kind kinds.Unknown = none
-
-abbrev pub paper_mode : ModeAt → Option Mode
-paper_mode (modes.Known mode) = some mode
-paper_mode modes.Unknown = none
-
-abbrev pub paper_loaded : Loaded → List ℕ → Option Record
-paper_loaded (loaded.Held r) store = some (held r store)
-paper_loaded loaded.BadRecord store = none
+-- the fields as they are loaded: 2 where there are none
+abbrev pub loaded : {A : Type 0} → Option A → Answered A
+loaded none = refused (number 2)
+loaded (some r) = served r
 
 -- what a call says: the refusal's number, 0 for none, the place of 3 and 4, else 0, the length of a frame's body, and the bytes taken
 abbrev pub fed : Said → ℕ → MfcFed

@@ -7,7 +7,8 @@ use Rattle.receiver.specs.Record.{Record, fresh, record_of}
 use Rattle.receiver.specs.Calls.{Result}
 use Rattle.receiver.specs.Series.{Call, stream_of, expected_from, marks, handed}
 use Rattle.mfc.specs.declared.answers.MfcFed.{MfcFed}
-use Rattle.mfc.specs.Receivers.{number_of_kind, record_size, bytes_of, fed, fresh_record, feed_record, noise_record}
+use Rattle.shdlc.specs.Numbers.{number_of_kind}
+use Rattle.mfc.specs.Receivers.{record_size, bytes_of, fed, fresh_record, feed_record, noise_record}
 
 -- what a call of C gives, whatever number stands for the flag (`is_silence`): its answer, the record's bytes and the frame afterwards
 abbrev pub called : List ℕ → Call → MfcFed × List ℕ × List ℕ

@@ -1,25 +1,17 @@
-// The structs that C gets, and the answers of the other crates turned into them.
+// The structs that C gets, each made of what the other crates answer. Each has the number of a refusal beside its values and a From of its own,
+// since C has no Result and no generic types: the C interface.
 ghost use Rattle.std.specs.Prelude.{◌≡◌};
-ghost use Rattle.refusal.specs.Refusals.{paper, refused};
-ghost use Rattle.shdlc.specs.Paper.{paper_written};
-ghost use Rattle.compare.specs.Paper.{paper_compared};
-ghost use Rattle.i2c.specs.Answer.{paper_stored};
-ghost use Rattle.i2c.specs.Register.{paper_edited};
-ghost use Rattle.wire_log.specs.Paper.{paper_answer};
-ghost use Rattle.reading.specs.Reading.{paper_thousandths, paper_quantity};
+ghost use Rattle.refusal.specs.Refusals.{paper, answered, answered_as};
+ghost use Rattle.board.specs.Orders.{number_if};
+ghost use Rattle.compare.specs.Compare.{counts};
 ghost use Rattle.mfc.specs.Answers.{carried_by, written, counted, compared, register, thousandths, quantity};
 
 use compare::Compared;
-use i2c::Stored;
-use i2c::register::Edited;
-use reading::{Quantity, Thousandths};
 use refusal::Refusal;
-use shdlc::Written;
-use wire_log::Answer;
 
 // What a writer answers.
 #[repr(C)]
-#[derive(Clone, Copy)]
+#[derive(Clone, Copy, Debug, Default, PartialEq)]
 pub struct MfcWritten {
     // The refusal's number, 0 for none.
     pub refusal: u8,
@@ -29,7 +21,7 @@ pub struct MfcWritten {
 
 // What reading a request answers.
 #[repr(C)]
-#[derive(Clone, Copy)]
+#[derive(Clone, Copy, Debug, Default, PartialEq)]
 pub struct MfcRequest {
     // The refusal's number, 0 for none.
     pub refusal: u8,
@@ -43,7 +35,7 @@ pub struct MfcRequest {
 
 // What reading a reply answers.
 #[repr(C)]
-#[derive(Clone, Copy)]
+#[derive(Clone, Copy, Debug, Default, PartialEq)]
 pub struct MfcReply {
     // The refusal's number, 0 for none.
     pub refusal: u8,
@@ -63,7 +55,7 @@ pub struct MfcReply {
 
 // What feeding a receiver answers. Without a refusal, and with frame_length 0, there is no item yet.
 #[repr(C)]
-#[derive(Clone, Copy)]
+#[derive(Clone, Copy, Debug, Default, PartialEq)]
 pub struct MfcFed {
     // The refusal's number, 0 for none.
     pub refusal: u8,
@@ -78,7 +70,7 @@ pub struct MfcFed {
 
 // What asking a receiver for its noise answers.
 #[repr(C)]
-#[derive(Clone, Copy)]
+#[derive(Clone, Copy, Debug, Default, PartialEq)]
 pub struct MfcNoise {
     // The refusal's number, 0 for none.
     pub refusal: u8,
@@ -88,7 +80,7 @@ pub struct MfcNoise {
 
 // What reading words answers, and checking and listing a log.
 #[repr(C)]
-#[derive(Clone, Copy)]
+#[derive(Clone, Copy, Debug, Default, PartialEq)]
 pub struct MfcWords {
     // The refusal's number, 0 for none.
     pub refusal: u8,
@@ -98,7 +90,7 @@ pub struct MfcWords {
 
 // What comparing two logs answers. With a refusal both numbers are 0.
 #[repr(C)]
-#[derive(Clone, Copy)]
+#[derive(Clone, Copy, Debug, Default, PartialEq)]
 pub struct MfcCompared {
     // The refusal's number, 0 for none.
     pub refusal: u8,
@@ -110,7 +102,7 @@ pub struct MfcCompared {
 
 // What a field edit answers.
 #[repr(C)]
-#[derive(Clone, Copy)]
+#[derive(Clone, Copy, Debug, Default, PartialEq)]
 pub struct MfcRegister {
     // The refusal's number, 0 for none.
     pub refusal: u8,
@@ -120,7 +112,7 @@ pub struct MfcRegister {
 
 // What a scaled reading answers.
 #[repr(C)]
-#[derive(Clone, Copy)]
+#[derive(Clone, Copy, Debug, Default, PartialEq)]
 pub struct MfcThousandths {
     // The refusal's number, 0 for none.
     pub refusal: u8,
@@ -130,7 +122,7 @@ pub struct MfcThousandths {
 
 // What a scaled reading in single precision answers.
 #[repr(C)]
-#[derive(Clone, Copy)]
+#[derive(Clone, Copy, Debug, Default, PartialEq)]
 pub struct MfcQuantity {
     // The refusal's number, 0 for none.
     pub refusal: u8,
@@ -138,182 +130,112 @@ pub struct MfcQuantity {
     pub value: f32,
 }
 
-fn wide(n: u8) -> usize
-    ensures { result ≡ n }
-{
-    n as usize
-}
-
-fn wide_place(n: u16) -> usize
-    ensures { result ≡ n }
-{
-    n as usize
-}
-
 // The value that a refusal carries beside its number.
-fn carried(r: Refusal) -> usize
-    ensures { result ≡ carried_by (paper r) }
+fn carried(why: Refusal) -> usize
+    ensures { result ≡ carried_by (paper why) }
 {
-    match r {
-        Refusal::NoRoom => 0,
-        Refusal::BadRecord => 0,
-        Refusal::BadEscape(place) => wide_place(place),
-        Refusal::BareControl(place) => wide_place(place),
-        Refusal::BodyTooLong => 0,
-        Refusal::BodyTooShort => 0,
-        Refusal::WrongLength => 0,
-        Refusal::WrongChecksum => 0,
-        Refusal::CutBySilence => 0,
-        Refusal::AddressBroadcast => 0,
-        Refusal::UnknownCommand => 0,
-        Refusal::OutOfRange => 0,
-        Refusal::BadFloat => 0,
-        Refusal::ForeignReply => 0,
-        Refusal::DeviceError(code) => wide(code),
-        Refusal::BadWordCount => 0,
+    match why {
+        Refusal::BadEscape(place) | Refusal::BareControl(place) => usize::from(place),
+        Refusal::DeviceError(code) => usize::from(code),
         Refusal::WrongCrc(index) => index,
-        Refusal::BadScale => 0,
-        Refusal::BoardFull => 0,
-        Refusal::BadTotal => 0,
-        Refusal::BadTrailer => 0,
-        Refusal::BadKind => 0,
-        Refusal::WrongCount => 0,
+        _ => 0,
     }
 }
 
-pub(crate) fn not_written(r: Refusal) -> MfcWritten
-    ensures { result ≡ written (refused (paper r)) }
+// The refusal's number, 0 for none.
+pub(crate) fn number_of(answer: Result<(), Refusal>) -> u8
+    ensures { result ≡ number_if (answered answer) }
 {
-    MfcWritten {
-        refusal: refusal::number(r),
-        length: 0,
+    match answer {
+        Ok(()) => 0,
+        Err(why) => why.number(),
     }
 }
 
-pub(crate) fn of_written(r: Written) -> MfcWritten
-    ensures { result ≡ written (paper_written r) }
-{
-    match r {
-        Written::Done(n) => MfcWritten {
-            refusal: 0,
-            length: n,
-        },
-        Written::Refused(why) => not_written(why),
+impl From<Result<usize, Refusal>> for MfcWritten {
+    ghost from_gives = { λ answer struct. struct ≡ written (answered answer) };
+
+    fn from(answer: Result<usize, Refusal>) -> MfcWritten {
+        match answer {
+            Ok(length) => MfcWritten { refusal: 0, length },
+            Err(why) => MfcWritten {
+                refusal: why.number(),
+                length: 0,
+            },
+        }
     }
 }
 
-pub(crate) fn of_stored(r: Stored) -> MfcWritten
-    ensures { result ≡ written (paper_stored r) }
-{
-    match r {
-        Stored::Count(n) => MfcWritten {
-            refusal: 0,
-            length: n,
-        },
-        Stored::Refused(why) => not_written(why),
+impl From<Result<usize, Refusal>> for MfcWords {
+    ghost from_gives = { λ answer struct. struct ≡ counted (answered answer) };
+
+    fn from(answer: Result<usize, Refusal>) -> MfcWords {
+        match answer {
+            Ok(count) => MfcWords { refusal: 0, count },
+            Err(why) => MfcWords {
+                refusal: why.number(),
+                count: carried(why),
+            },
+        }
     }
 }
 
-pub(crate) fn of_words(r: Stored) -> MfcWords
-    ensures { result ≡ counted (paper_stored r) }
-{
-    match r {
-        Stored::Count(n) => MfcWords {
-            refusal: 0,
-            count: n,
-        },
-        Stored::Refused(why) => MfcWords {
-            refusal: refusal::number(why),
-            count: carried(why),
-        },
+impl From<Result<Compared, Refusal>> for MfcCompared {
+    ghost from_gives = { λ answer struct. struct ≡ compared (answered_as counts answer) };
+
+    fn from(answer: Result<Compared, Refusal>) -> MfcCompared {
+        match answer {
+            Ok(found) => MfcCompared {
+                refusal: 0,
+                places: found.places,
+                same: found.same,
+            },
+            Err(why) => MfcCompared {
+                refusal: why.number(),
+                ..MfcCompared::default()
+            },
+        }
     }
 }
 
-pub(crate) fn of_length(r: Answer) -> MfcWritten
-    ensures { result ≡ written (paper_answer r) }
-{
-    match r {
-        Answer::Number(n) => MfcWritten {
-            refusal: 0,
-            length: n,
-        },
-        Answer::Refused(why) => not_written(why),
+impl From<Result<u16, Refusal>> for MfcRegister {
+    ghost from_gives = { λ answer struct. struct ≡ register (answered answer) };
+
+    fn from(answer: Result<u16, Refusal>) -> MfcRegister {
+        match answer {
+            Ok(value) => MfcRegister { refusal: 0, value },
+            Err(why) => MfcRegister {
+                refusal: why.number(),
+                value: 0,
+            },
+        }
     }
 }
 
-pub(crate) fn of_counted(r: Answer) -> MfcWords
-    ensures { result ≡ counted (paper_answer r) }
-{
-    match r {
-        Answer::Number(n) => MfcWords {
-            refusal: 0,
-            count: n,
-        },
-        Answer::Refused(why) => MfcWords {
-            refusal: refusal::number(why),
-            count: carried(why),
-        },
+impl From<Result<i32, Refusal>> for MfcThousandths {
+    ghost from_gives = { λ answer struct. struct ≡ thousandths (answered answer) };
+
+    fn from(answer: Result<i32, Refusal>) -> MfcThousandths {
+        match answer {
+            Ok(value) => MfcThousandths { refusal: 0, value },
+            Err(why) => MfcThousandths {
+                refusal: why.number(),
+                value: 0,
+            },
+        }
     }
 }
 
-pub(crate) fn of_compared(r: Compared) -> MfcCompared
-    ensures { result ≡ compared (paper_compared r) }
-{
-    match r {
-        Compared::Done(places, same) => MfcCompared {
-            refusal: 0,
-            places,
-            same,
-        },
-        Compared::Refused(why) => MfcCompared {
-            refusal: refusal::number(why),
-            places: 0,
-            same: 0,
-        },
-    }
-}
+impl From<Result<f32, Refusal>> for MfcQuantity {
+    ghost from_gives = { λ answer struct. struct ≡ quantity (answered answer) };
 
-pub(crate) fn of_edited(r: Edited) -> MfcRegister
-    ensures { result ≡ register (paper_edited r) }
-{
-    match r {
-        Edited::Value(n) => MfcRegister {
-            refusal: 0,
-            value: n,
-        },
-        Edited::Refused(why) => MfcRegister {
-            refusal: refusal::number(why),
-            value: 0,
-        },
-    }
-}
-
-pub(crate) fn of_thousandths(r: Thousandths) -> MfcThousandths
-    ensures { result ≡ thousandths (paper_thousandths r) }
-{
-    match r {
-        Thousandths::Value(z) => MfcThousandths {
-            refusal: 0,
-            value: z,
-        },
-        Thousandths::Refused(why) => MfcThousandths {
-            refusal: refusal::number(why),
-            value: 0,
-        },
-    }
-}
-
-pub(crate) fn of_quantity(r: Quantity) -> MfcQuantity
-    ensures { result ≡ quantity (paper_quantity r) }
-{
-    match r {
-        Quantity::Value(x) => MfcQuantity {
-            refusal: 0,
-            value: x,
-        },
-        Quantity::Refused(why) => MfcQuantity {
-            refusal: refusal::number(why),
-            value: 0.0,
-        },
+    fn from(answer: Result<f32, Refusal>) -> MfcQuantity {
+        match answer {
+            Ok(value) => MfcQuantity { refusal: 0, value },
+            Err(why) => MfcQuantity {
+                refusal: why.number(),
+                value: 0.0,
+            },
+        }
     }
 }

@@ -1,4 +1,5 @@
-// The handover board in a lent table: the orders by their numbers, and what crossed the wires as orders.
+// The handover board in a lent table: the orders by their numbers, and what crossed the wires as orders. Parameters go side by side and an answer
+// is a refusal's number, 0 for none, by the C interface.
 ghost use Rattle.std.specs.Prelude.{◌≡◌};
 ghost use Rattle.board.specs.declared.orders.Order.TheVariants.{Poll};
 ghost use Rattle.board.specs.Numbers.{open_by, close_by, restart_by};
@@ -6,6 +7,7 @@ ghost use Rattle.board.specs.Orders.{change, numbered};
 ghost use Rattle.board.specs.Listing.{list, numbered_list};
 ghost use Rattle.handover.specs.Wire.{order_by_reply, order_by_code};
 
+use crate::answers::number_of;
 use board::entries::Entry;
 use board::listing::Listed;
 use board::numbers::{order_close, order_open, order_poll, order_restart};
@@ -25,7 +27,7 @@ pub extern "C" fn mfc_board_open(
     ensures { (result, table.new) ≡ numbered (change table.old (open_by bus address kind lease)) }
 {
     let o = order_open(bus, address, kind, lease);
-    board::table::change(table, o)
+    number_of(board::table::change(table, o))
 }
 
 // Closes the entry of a node and kind; where there is none, nothing is done. Refusals, in their order: 1, 2 and 12 as for mfc_board_open.
@@ -34,7 +36,7 @@ pub extern "C" fn mfc_board_close(table: &mut [Entry], bus: u8, address: u8, kin
     ensures { (result, table.new) ≡ numbered (change table.old (close_by bus address kind)) }
 {
     let o = order_close(bus, address, kind);
-    board::table::change(table, o)
+    number_of(board::table::change(table, o))
 }
 
 // A node has restarted: both its entries are closed. Refusals, in their order: 1, 2 and 12 as for mfc_board_open.
@@ -43,7 +45,7 @@ pub extern "C" fn mfc_board_restart(table: &mut [Entry], bus: u8, address: u8) -
     ensures { (result, table.new) ≡ numbered (change table.old (restart_by bus address)) }
 {
     let o = order_restart(bus, address);
-    board::table::change(table, o)
+    number_of(board::table::change(table, o))
 }
 
 // One poll: it takes one from every lease above 0. An entry with 0 left is due, and stays so until it is closed or renewed. Refusals, in
@@ -53,7 +55,7 @@ pub extern "C" fn mfc_board_poll(table: &mut [Entry]) -> u8
     ensures { (result, table.new) ≡ numbered (change table.old Poll) }
 {
     let o = order_poll();
-    board::table::change(table, o)
+    number_of(board::table::change(table, o))
 }
 
 // Lists the entries by bus (serial first), address and kind (valve first) at the start of the room, and counts them; MFC_BOARD_PLACES
@@ -63,7 +65,7 @@ pub extern "C" fn mfc_board_poll(table: &mut [Entry]) -> u8
 pub extern "C" fn mfc_board_list(table: &[Entry], entries: &mut [Entry]) -> Listed
     ensures { (result, entries.new) ≡ numbered_list (list table.now entries.old) }
 {
-    board::table::list(table, entries)
+    board::table::list(table, entries).into()
 }
 
 // To be called after every reply that was read: the address and the request's number that were asked, and the refusal that
@@ -82,7 +84,7 @@ pub extern "C" fn mfc_board_reply(
     ensures { (result, table.new) ≡ numbered (change table.old (order_by_reply address request refusal lease)) }
 {
     let o = order_by_reply(address, request, refusal, lease);
-    board::table::change(table, o)
+    number_of(board::table::change(table, o))
 }
 
 // To be called after every command that an SFC6 on I2C has acknowledged, with its code: 3FEF opens the valve entry of the address for a lease
@@ -99,5 +101,5 @@ pub extern "C" fn mfc_board_acknowledged(
     ensures { (result, table.new) ≡ numbered (change table.old (order_by_code address code lease)) }
 {
     let o = order_by_code(address, code, lease);
-    board::table::change(table, o)
+    number_of(board::table::change(table, o))
 }

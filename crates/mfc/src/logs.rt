@@ -8,14 +8,14 @@ ghost use Rattle.wire_log.specs.Writer.{append};
 ghost use Rattle.compare.specs.Compare.{compare};
 ghost use Rattle.mfc.specs.Answers.{counted, compared, written, beside};
 
-use crate::answers::{MfcCompared, MfcWords, MfcWritten, of_compared, of_counted, of_length};
+use crate::answers::{MfcCompared, MfcWords, MfcWritten};
 
 // Lays the log without records at the start of the lent file, and answers its length. Refusals: 1 where the file has not that room.
 #[unsafe(no_mangle)]
 pub extern "C" fn mfc_log_empty(file: &mut [u8]) -> MfcWritten
     ensures { (result, file.new) ≡ beside written (emit (log_of []) file.old) }
 {
-    of_length(wire_log::writer::empty(file))
+    wire_log::writer::empty(file).into()
 }
 
 // Adds a record of a kind of MFC_LOG_.. and a body of n bytes to the log of that length at the start of the lent file, and answers the
@@ -31,7 +31,7 @@ pub extern "C" fn mfc_log_append(
 ) -> MfcWritten
     ensures { (result, file.new) ≡ beside written (append kinds file.old length (recorded kind body.now)) }
 {
-    of_length(wire_log::writer::append(file, length, kind, body))
+    wire_log::writer::append(file, length, kind, body).into()
 }
 
 // Checks a log, and answers how many records it has. Refusals, in their order: 20 where the file has under 8 bytes, or its total is not
@@ -41,7 +41,7 @@ pub extern "C" fn mfc_log_append(
 pub extern "C" fn mfc_log_check(file: &[u8]) -> MfcWords
     ensures { result ≡ counted (counting (records_of kinds file.now)) }
 {
-    of_counted(wire_log::reader::check(file))
+    wire_log::reader::check(file).into()
 }
 
 // Lists a log newest first, from the record that skip others are newer than: MFC_LOG_ROW numbers a row, which are the kind, where the
@@ -52,7 +52,7 @@ pub extern "C" fn mfc_log_check(file: &[u8]) -> MfcWords
 pub extern "C" fn mfc_log_list(file: &[u8], skip: usize, rows: &mut [u16]) -> MfcWords
     ensures { (result, rows.new) ≡ beside counted (list kinds file.now skip rows.old) }
 {
-    of_counted(wire_log::listing::list(file, skip, rows))
+    wire_log::listing::list(file, skip, rows).into()
 }
 
 // Compares two logs record by record, and lays a mark of MFC_LOG_SAME, MFC_LOG_DIFFER, MFC_LOG_ONLY_A or MFC_LOG_ONLY_B for each place at
@@ -63,5 +63,5 @@ pub extern "C" fn mfc_log_list(file: &[u8], skip: usize, rows: &mut [u16]) -> Mf
 pub extern "C" fn mfc_log_compare(a: &[u8], b: &[u8], marks: &mut [u8]) -> MfcCompared
     ensures { (result, marks.new) ≡ beside compared (compare a.now b.now marks.old) }
 {
-    of_compared(compare::compare(a, b, marks))
+    compare::compare(a, b, marks).into()
 }

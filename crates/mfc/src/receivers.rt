@@ -1,112 +1,32 @@
 // A receiver whose record is the first RECORD_SIZE bytes of a lent slice.
-ghost use Rattle.std.specs.Prelude.{◌≡◌, [], ◌∷◌, ◌+◌, ◌*◌, ◌/◌, ◌%◌, ◌≤◌, length, set};
+ghost use Rattle.std.specs.Prelude.{◌≡◌, [], ◌∷◌, ◌+◌, ◌/◌, ◌%◌, ◌≤◌, length, set};
 ghost use Rattle.refusal.specs.Room.{overlay};
-ghost use Rattle.receiver.specs.Record.{number_of_mode};
-ghost use Rattle.receiver.specs.Calls.{paper_answer, paper_noise};
-ghost use Rattle.mfc.specs.Receivers.{number_of_kind, kind_at, mode_at, paper_kind, paper_mode, paper_loaded, count_bytes, head_of, count_in, store_in, fields_in, fed, noise_told, fresh_record, feed_record, is_silence, noise_record};
+ghost use Rattle.receiver.specs.Record.{held, number_of_mode};
+ghost use Rattle.refusal.specs.Refusals.{answered, answered_as};
+ghost use Rattle.board.specs.Orders.{number_if};
+ghost use Rattle.shdlc.specs.Numbers.{number_of_kind};
+ghost use Rattle.receiver.specs.Calls.{paper_answer};
+ghost use Rattle.mfc.specs.Receivers.{loaded, count_bytes, head_of, count_in, store_in, fields_in, fed, noise_told, fresh_record, feed_record, is_silence, noise_record};
 
-use crate::answers::{MfcFed, MfcNoise};
+use crate::answers::{MfcFed, MfcNoise, number_of};
 use crate::sizes::RECORD_SIZE;
-use receiver::{Answer, Made, Mode, NoiseCount, Receiver};
+use receiver::{Mode, Receiver};
 use refusal::Refusal;
 use shdlc::Kind;
 
-// A kind of frame, a mode and a record by their numbers.
-#[derive(Clone, Copy)]
-enum KindAt {
-    Known(Kind),
-    Unknown,
-}
-
-#[derive(Clone, Copy)]
-enum ModeAt {
-    Known(Mode),
-    Unknown,
-}
-
-#[derive(Clone, Copy)]
-enum Loaded {
-    Held(Receiver),
-    BadRecord,
-}
-
-fn kind_at(n: u8) -> KindAt
-    ensures { paper_kind result ≡ kind_at n }
-{
-    match n {
-        0 => KindAt::Known(Kind::Request),
-        1 => KindAt::Known(Kind::Reply),
-        _ => KindAt::Unknown,
-    }
-}
-
-fn mode_at(n: u8) -> ModeAt
-    ensures { paper_mode result ≡ mode_at n }
-{
-    match n {
-        0 => ModeAt::Known(Mode::Outside),
-        1 => ModeAt::Known(Mode::Plain),
-        2 => ModeAt::Known(Mode::Escaped),
-        3 => ModeAt::Known(Mode::BadEscape),
-        4 => ModeAt::Known(Mode::BareControl),
-        _ => ModeAt::Unknown,
-    }
-}
-
-fn kind_number(kind: Kind) -> u8
-    ensures { result ≡ number_of_kind kind }
-{
-    match kind {
-        Kind::Request => 0,
-        Kind::Reply => 1,
-    }
-}
-
-fn joined(high: u8, low: u8) -> usize
-    ensures { result ≡ high * 256 + low }
-{
-    (high as usize) * 256 + (low as usize)
-}
-
-fn high(n: usize) -> u8
-    ensures { result ≡ n / 256 % 256 }
-{
-    (n / 256 % 256) as u8
-}
-
-fn low(n: usize) -> u8
-    ensures { result ≡ n % 256 }
-{
-    (n % 256) as u8
-}
-
-// The number of four bytes, the highest first.
-fn four(a: u8, b: u8, c: u8, d: u8) -> usize
-    ensures { result ≡ ((a * 256 + b) * 256 + c) * 256 + d }
-{
-    (((a as usize) * 256 + (b as usize)) * 256 + (c as usize)) * 256 + (d as usize)
-}
-
 // The record in the lent bytes, its store aside; whether its length is in range, the receiver's own calls test.
-fn load(lent: &[u8]) -> Loaded
-    ensures { paper_loaded result (store_in lent.now) ≡ fields_in lent.now }
+#[tactic(auto, using(crate::proofs::Heads::load_short, crate::proofs::Heads::load_kind, crate::proofs::Heads::load_mode, crate::proofs::Heads::load_held))]
+fn load(lent: &[u8]) -> Result<Receiver, Refusal>
+    ensures { answered_as (λ r. held r (store_in lent.now)) result ≡ loaded (fields_in lent.now) }
 {
     if lent.len() < RECORD_SIZE {
-        return Loaded::BadRecord;
+        return Err(Refusal::BadRecord);
     }
-    let KindAt::Known(kind) = kind_at(lent[0]) else {
-        return Loaded::BadRecord;
-    };
-    let ModeAt::Known(mode) = mode_at(lent[1]) else {
-        return Loaded::BadRecord;
-    };
-    let len = joined(lent[2], lent[3]);
-    let noise = four(lent[4], lent[5], lent[6], lent[7]);
-    Loaded::Held(Receiver {
-        kind,
-        mode,
-        len,
-        noise,
+    Ok(Receiver {
+        kind: Kind::try_from(lent[0])?,
+        mode: Mode::try_from(lent[1])?,
+        len: usize::from(u16::from_be_bytes([lent[2], lent[3]])),
+        noise: u32::from_be_bytes([lent[4], lent[5], lent[6], lent[7]]) as usize,
     })
 }
 
@@ -122,26 +42,23 @@ fn put_mode(lent: &mut [u8], n: u8)
 }
 
 // Puts a record's mode and length into the lent bytes.
+#[tactic(auto, unfolding(refusal::specs::Room::overlay))]
 fn put_place(lent: &mut [u8], r: Receiver)
     requires { 4 ≤ length lent.old }
     ensures { lent.new ≡ overlay lent.old 1 (number_of_mode r.mode ∷ r.len / 256 % 256 ∷ r.len % 256 ∷ []) }
 {
-    let mode = r.mode;
-    let len = r.len;
-    put_mode(lent, receiver::mode_number(mode));
-    lent[2] = high(len);
-    lent[3] = low(len);
+    put_mode(lent, u8::from(r.mode));
+    lent[2..4].copy_from_slice(&((r.len % 0x1_0000) as u16).to_be_bytes());
 }
 
-// Puts a count of noise bytes into the lent bytes.
+// Puts a count of noise bytes into the lent bytes. These writers take the lent bytes whole and say of the whole what they leave: an array of the
+// first eight would be split off and joined again by each caller, and no plainer.
+#[tactic(auto, unfolding(refusal::specs::Room::overlay))]
 fn put_noise(lent: &mut [u8], n: usize)
     requires { 8 ≤ length lent.old }
     ensures { lent.new ≡ overlay lent.old 4 (count_bytes n) }
 {
-    lent[4] = low(n / 16777216);
-    lent[5] = low(n / 65536);
-    lent[6] = low(n / 256);
-    lent[7] = low(n);
+    lent[4..8].copy_from_slice(&((n % 0x1_0000_0000) as u32).to_be_bytes());
 }
 
 // The same where a count stands already. Most calls leave it as it is, and then store nothing that the next one would wait for.
@@ -159,8 +76,7 @@ fn put_after(lent: &mut [u8], before: usize, r: Receiver)
     requires { (8 ≤ length lent.old) × (before ≡ count_in lent.old) }
     ensures { lent.new ≡ overlay lent.old 1 (number_of_mode r.mode ∷ r.len / 256 % 256 ∷ r.len % 256 ∷ count_bytes r.noise) }
 {
-    let noise = r.noise;
-    renew_noise(lent, before, noise);
+    renew_noise(lent, before, r.noise);
     put_place(lent, r);
 }
 
@@ -169,51 +85,57 @@ fn put_head(lent: &mut [u8], r: Receiver)
     requires { 8 ≤ length lent.old }
     ensures { lent.new ≡ overlay lent.old 0 (head_of r.kind r.mode r.len r.noise) }
 {
-    let kind = r.kind;
-    let noise = r.noise;
-    lent[0] = kind_number(kind);
-    put_noise(lent, noise);
+    lent[0] = u8::from(r.kind);
+    put_noise(lent, r.noise);
     put_place(lent, r);
 }
 
-fn of_answer(answer: Answer, taken: usize) -> MfcFed
+// What feeding answered, of so many bytes that were taken.
+fn told(answer: Result<Option<usize>, Refusal>, taken: usize) -> MfcFed
     ensures { result ≡ fed (paper_answer answer) taken }
 {
     match answer {
-        Answer::Nothing => MfcFed {
-            refusal: 0,
-            place: 0,
-            frame_length: 0,
-            taken: taken,
+        Ok(frame) => MfcFed {
+            frame_length: frame.unwrap_or(0),
+            taken,
+            ..MfcFed::default()
         },
-        Answer::Frame(n) => MfcFed {
-            refusal: 0,
-            place: 0,
-            frame_length: n,
-            taken: taken,
-        },
-        Answer::Refused(why) => MfcFed {
-            refusal: refusal::number(why),
-            place: refusal::place(why),
-            frame_length: 0,
-            taken: taken,
+        Err(why) => MfcFed {
+            refusal: why.number(),
+            place: why.place(),
+            taken,
+            ..MfcFed::default()
         },
     }
 }
 
-fn of_noise(noise: NoiseCount) -> MfcNoise
-    ensures { result ≡ noise_told (paper_noise noise) }
-{
-    match noise {
-        NoiseCount::Count(n) => MfcNoise {
-            refusal: 0,
-            count: n,
-        },
-        NoiseCount::Refused(why) => MfcNoise {
-            refusal: refusal::number(why),
-            count: 0,
-        },
+impl From<Result<u32, Refusal>> for MfcNoise {
+    ghost from_gives = { λ answer struct. struct ≡ noise_told (answered answer) };
+
+    fn from(answer: Result<u32, Refusal>) -> MfcNoise {
+        match answer {
+            Ok(count) => MfcNoise { refusal: 0, count },
+            Err(why) => MfcNoise {
+                refusal: why.number(),
+                count: 0,
+            },
+        }
     }
+}
+
+// Makes a fresh receiver of a kind by its number in the lent bytes.
+fn make_fresh(kind: u8, room: &mut [u8]) -> Result<(), Refusal>
+    ensures { (number_if (answered result), room.new) ≡ fresh_record kind room.old }
+{
+    if room.len() < RECORD_SIZE {
+        return Err(Refusal::NoRoom);
+    }
+    let Ok(kind) = Kind::try_from(kind) else {
+        return Err(Refusal::OutOfRange);
+    };
+    let fresh = receiver::fresh(kind, &mut room[8..RECORD_SIZE])?;
+    put_head(room, fresh);
+    Ok(())
 }
 
 // Makes a fresh receiver of a kind, MFC_KIND_REQUEST or MFC_KIND_REPLY, in the first MFC_RECORD_SIZE bytes of record. Answers the refusal's
@@ -222,19 +144,7 @@ fn of_noise(noise: NoiseCount) -> MfcNoise
 pub extern "C" fn mfc_receiver_fresh(kind: u8, record: &mut [u8]) -> u8
     ensures { (result, «record».new) ≡ fresh_record kind «record».old }
 {
-    if record.len() < RECORD_SIZE {
-        return refusal::number(Refusal::NoRoom);
-    }
-    let KindAt::Known(known) = kind_at(kind) else {
-        return refusal::number(Refusal::OutOfRange);
-    };
-    match receiver::fresh(known, &mut record[8..RECORD_SIZE]) {
-        Made::Fresh(r) => {
-            put_head(record, r);
-            0
-        }
-        Made::Refused(why) => refusal::number(why),
-    }
+    number_of(make_fresh(kind, record))
 }
 
 // Hands the n bytes of a piece to the receiver whose record is lent. silence says whether over 200 ms without a byte came before them: 0
@@ -250,18 +160,21 @@ pub extern "C" fn mfc_receiver_fresh(kind: u8, record: &mut [u8]) -> u8
 pub extern "C" fn mfc_feed(record: &mut [u8], silence: u8, piece: &[u8], frame: &mut [u8]) -> MfcFed
     ensures { (result, «record».new, frame.new) ≡ feed_record «record».old (is_silence silence) piece.now frame.old }
 {
-    let Loaded::Held(r) = load(record) else {
-        return of_answer(Answer::Refused(Refusal::BadRecord), 0);
+    let before = match load(record) {
+        Ok(r) => r,
+        Err(why) => return told(Err(why), 0),
     };
-    let before = r.noise;
-    let f = receiver::feed(r, &mut record[8..RECORD_SIZE], silence != 0, piece, frame);
-    let next = f.receiver;
-    let taken = f.taken;
-    let answer = f.answer;
+    let fed = receiver::feed(
+        before,
+        &mut record[8..RECORD_SIZE],
+        silence != 0,
+        piece,
+        frame,
+    );
     // The answer first: behind the test of the count the compiler would ask once more which one it is.
-    let told = of_answer(answer, taken);
-    put_after(record, before, next);
-    told
+    let answer = told(fed.answer, fed.taken);
+    put_after(record, before.noise, fed.receiver);
+    answer
 }
 
 // The count of bytes that the receiver whose record is lent has thrown away as noise: those before the first 7E, and those after silence
@@ -271,8 +184,8 @@ pub extern "C" fn mfc_feed(record: &mut [u8], silence: u8, piece: &[u8], frame: 
 pub extern "C" fn mfc_receiver_noise(record: &[u8]) -> MfcNoise
     ensures { result ≡ noise_record «record».now }
 {
-    let Loaded::Held(r) = load(record) else {
-        return of_noise(NoiseCount::Refused(Refusal::BadRecord));
-    };
-    of_noise(receiver::noise(r, &record[8..RECORD_SIZE]))
+    match load(record) {
+        Ok(r) => receiver::noise(r, &record[8..RECORD_SIZE]).into(),
+        Err(why) => Err(why).into(),
+    }
 }

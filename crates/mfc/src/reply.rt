@@ -1,30 +1,16 @@
 // Replies of the SFC6 family by their numbers, written and read.
 ghost use Rattle.std.specs.Prelude.{◌≡◌, false, cond, ◌||◌, ltb, ◌%◌, ◌≤◌};
-ghost use Rattle.refusal.specs.Refusals.{paper, refused};
+ghost use Rattle.refusal.specs.Refusals.{paper, refused, answered};
 ghost use Rattle.replies.specs.Replies.{reply_to, kind_of};
 ghost use Rattle.replies.specs.Paper.{paper_read};
+ghost use Rattle.mfc.specs.Answers.{written};
 ghost use Rattle.mfc.specs.Answering.{reply_at, value_of, reply_in, write_answer, read_answer};
 ghost use Rattle.mfc.specs.Private.{too_wide, refusal_of, write_known};
 
-use crate::answers::{MfcReply, MfcWritten, not_written, of_written};
-use crate::requests::{place, wide};
+use crate::answers::{MfcReply, MfcWritten};
 use refusal::Refusal;
-use replies::{ReadReply, Reply};
-use sfc6::{Request, Typed};
-use shdlc::Checked;
-
-// The last byte of a number, and the last two.
-fn low(n: u32) -> u8
-    ensures { result ≡ n % 256 }
-{
-    (n % 256) as u8
-}
-
-fn low16(n: u32) -> u16
-    ensures { result ≡ n % 65536 }
-{
-    (n % 65536) as u16
-}
+use replies::{ReadReply, Reading, Reply};
+use sfc6::Request;
 
 // The reply of its number, 0 to 15, and of a value that it holds.
 fn reply_of(number: u8, n: u32) -> Reply
@@ -33,25 +19,25 @@ fn reply_of(number: u8, n: u32) -> Reply
 {
     match number {
         0 => Reply::Acknowledged,
-        1 => Reply::Setpoint(replies::reading_of(n)),
-        2 => Reply::MeasuredValue(replies::reading_of(n)),
-        3 => Reply::Gain(replies::reading_of(n)),
-        4 => Reply::InitStep(replies::reading_of(n)),
-        5 => Reply::RawFlow(low16(n)),
-        6 => Reply::RawConductivity(low16(n)),
-        7 => Reply::Temperature(replies::reading_of(n)),
+        1 => Reply::Setpoint(Reading::from(n)),
+        2 => Reply::MeasuredValue(Reading::from(n)),
+        3 => Reply::Gain(Reading::from(n)),
+        4 => Reply::InitStep(Reading::from(n)),
+        5 => Reply::RawFlow(n as u16),
+        6 => Reply::RawConductivity(n as u16),
+        7 => Reply::Temperature(Reading::from(n)),
         8 => Reply::NumberOfCalibrations(n),
         9 => Reply::Validity(n != 0),
-        10 => Reply::FullScale(replies::reading_of(n)),
+        10 => Reply::FullScale(Reading::from(n)),
         11 => Reply::Calibration(n),
-        12 => Reply::Address(low(n)),
+        12 => Reply::Address(n as u8),
         13 => Reply::Baud(n),
         14 => Reply::ProductType,
-        _ => Reply::DeviceError(low(n)),
+        _ => Reply::DeviceError(n as u8),
     }
 }
 
-// The number of a reply.
+// The number of a reply. No From: neither type is this crate's.
 fn number_of(reply: Reply) -> u8
     ensures { result ≡ kind_of reply }
 {
@@ -80,13 +66,17 @@ fn expected(request: Request) -> u8
     ensures { result ≡ kind_of (reply_to request 0) }
 {
     match request {
+        Request::SetSetpoint(_)
+        | Request::SetGain(_)
+        | Request::SetInitStep(_)
+        | Request::SetCalibration(_)
+        | Request::VolatileCalibration(_)
+        | Request::SetAddress(_)
+        | Request::SetBaud(_) => 0,
         Request::GetSetpoint => 1,
-        Request::SetSetpoint(_) => 0,
         Request::MeasuredValue => 2,
         Request::GetGain => 3,
-        Request::SetGain(_) => 0,
         Request::GetInitStep => 4,
-        Request::SetInitStep(_) => 0,
         Request::RawFlow => 5,
         Request::RawConductivity => 6,
         Request::Temperature => 7,
@@ -94,20 +84,10 @@ fn expected(request: Request) -> u8
         Request::Validity(_) => 9,
         Request::FullScale => 10,
         Request::GetCalibration => 11,
-        Request::SetCalibration(_) => 0,
-        Request::VolatileCalibration(_) => 0,
         Request::GetAddress => 12,
-        Request::SetAddress(_) => 0,
         Request::GetBaud => 13,
-        Request::SetBaud(_) => 0,
         Request::ProductType => 14,
     }
-}
-
-fn wide16(n: u16) -> u32
-    ensures { result ≡ n }
-{
-    n as u32
 }
 
 // The value that a reply carries, a float by its bits.
@@ -115,22 +95,17 @@ fn value_of(reply: Reply) -> u32
     ensures { result ≡ value_of reply }
 {
     match reply {
-        Reply::Acknowledged => 0,
-        Reply::Setpoint(x) => replies::bits_of_reading(x),
-        Reply::MeasuredValue(x) => replies::bits_of_reading(x),
-        Reply::Gain(x) => replies::bits_of_reading(x),
-        Reply::InitStep(x) => replies::bits_of_reading(x),
-        Reply::RawFlow(n) => wide16(n),
-        Reply::RawConductivity(n) => wide16(n),
-        Reply::Temperature(x) => replies::bits_of_reading(x),
-        Reply::NumberOfCalibrations(n) => n,
-        Reply::Validity(v) => wide(bit(v)),
-        Reply::FullScale(x) => replies::bits_of_reading(x),
-        Reply::Calibration(n) => n,
-        Reply::Address(a) => wide(a),
-        Reply::Baud(rate) => rate,
-        Reply::ProductType => 0,
-        Reply::DeviceError(code) => wide(code),
+        Reply::Setpoint(x)
+        | Reply::MeasuredValue(x)
+        | Reply::Gain(x)
+        | Reply::InitStep(x)
+        | Reply::Temperature(x)
+        | Reply::FullScale(x) => u32::from(x),
+        Reply::RawFlow(n) | Reply::RawConductivity(n) => u32::from(n),
+        Reply::NumberOfCalibrations(n) | Reply::Calibration(n) | Reply::Baud(n) => n,
+        Reply::Validity(v) => u32::from(v),
+        Reply::Address(n) | Reply::DeviceError(n) => u32::from(n),
+        Reply::Acknowledged | Reply::ProductType => 0,
     }
 }
 
@@ -139,10 +114,8 @@ fn is_too_wide(number: u8, n: u32) -> bool
     ensures { result ≡ too_wide number n }
 {
     match number {
-        5 => 65535 < n,
-        6 => 65535 < n,
-        12 => 255 < n,
-        15 => 255 < n,
+        5 | 6 => 65535 < n,
+        12 | 15 => 255 < n,
         _ => false,
     }
 }
@@ -151,7 +124,7 @@ fn is_too_wide(number: u8, n: u32) -> bool
 fn refusal_of(address: u8, request: Request, number: u8) -> Refusal
     ensures { refused (paper result) ≡ refusal_of address request number }
 {
-    if let Checked::Refused(r) = sfc6::check_request(address, request) {
+    if let Err(r) = sfc6::check_request(address, request) {
         return r;
     }
     if 15 < number {
@@ -173,10 +146,7 @@ fn refusal_of(address: u8, request: Request, number: u8) -> Refusal
 fn is_unsayable(number: u8, n: u32) -> bool
     ensures { result ≡ (ltb 15 number || too_wide number n) }
 {
-    if 15 < number {
-        return true;
-    }
-    is_too_wide(number, n)
+    15 < number || is_too_wide(number, n)
 }
 
 // Writes the frame of the reply to a request.
@@ -188,13 +158,13 @@ fn write_known(
     text: &[u8],
     bit7: u8,
     out: &mut [u8],
-) -> MfcWritten
-    ensures { (result, out.new) ≡ write_known address request reply n text.now bit7 out.old }
+) -> Result<usize, Refusal>
+    ensures { (written (answered result), out.new) ≡ write_known address request reply n text.now bit7 out.old }
 {
     if is_unsayable(reply, n) {
-        return not_written(refusal_of(address, request, reply));
+        return Err(refusal_of(address, request, reply));
     }
-    of_written(replies::write_reply(address, request, reply_of(reply, n), text, bit7 != 0, out))
+    replies::write_reply(address, request, reply_of(reply, n), text, bit7 != 0, out)
 }
 
 // Writes the frame of the reply to a request. The n bytes of text are those of a product type; beside any other reply they are not looked
@@ -216,64 +186,41 @@ pub extern "C" fn mfc_write_reply(
 ) -> MfcWritten
     ensures { (result, out.new) ≡ write_answer address request value reply reply_value text.now bit7 out.old }
 {
-    match sfc6::request_of(place(request), value) {
-        Typed::Refused(r) => not_written(r),
-        Typed::Known(asked) => write_known(address, asked, reply, reply_value, text, bit7, out),
+    match sfc6::request_of(usize::from(request), value) {
+        Ok(asked) => write_known(address, asked, reply, reply_value, text, bit7, out).into(),
+        Err(why) => Err(why).into(),
     }
 }
 
-fn bit(set: bool) -> u8
-    ensures { result ≡ cond set 1 0 }
-{
-    if set { 1 } else { 0 }
-}
+impl From<Result<ReadReply, Refusal>> for MfcReply {
+    ghost from_gives = { λ answer struct. struct ≡ reply_in (paper_read answer) };
 
-fn not_read(r: Refusal) -> MfcReply
-    ensures { result ≡ reply_in (paper_read (ReadReply.Refused r)) }
-{
-    MfcReply {
-        refusal: refusal::number(r),
-        code: 0,
-        bit7: 0,
-        reply: 0,
-        value: 0,
-        text_start: 0,
-        text_length: 0,
-    }
-}
-
-fn of_read(r: ReadReply) -> MfcReply
-    ensures { result ≡ reply_in (paper_read r) }
-{
-    match r {
-        ReadReply::Value(reply, bit7) => MfcReply {
-            refusal: 0,
-            code: 0,
-            bit7: bit(bit7),
-            reply: number_of(reply),
-            value: value_of(reply),
-            text_start: 0,
-            text_length: 0,
-        },
-        ReadReply::Text(start, length, bit7) => MfcReply {
-            refusal: 0,
-            code: 0,
-            bit7: bit(bit7),
-            reply: 14,
-            value: 0,
-            text_start: start,
-            text_length: length,
-        },
-        ReadReply::Failed(code, bit7) => MfcReply {
-            refusal: 15,
-            code: code,
-            bit7: bit(bit7),
-            reply: 0,
-            value: 0,
-            text_start: 0,
-            text_length: 0,
-        },
-        ReadReply::Refused(why) => not_read(why),
+    fn from(answer: Result<ReadReply, Refusal>) -> MfcReply {
+        match answer {
+            Ok(ReadReply::Value(reply, bit7)) => MfcReply {
+                bit7: u8::from(bit7),
+                reply: number_of(reply),
+                value: value_of(reply),
+                ..MfcReply::default()
+            },
+            Ok(ReadReply::Text(text_start, text_length, bit7)) => MfcReply {
+                bit7: u8::from(bit7),
+                reply: number_of(Reply::ProductType),
+                text_start,
+                text_length,
+                ..MfcReply::default()
+            },
+            Ok(ReadReply::Failed(code, bit7)) => MfcReply {
+                refusal: Refusal::DeviceError(code).number(),
+                code,
+                bit7: u8::from(bit7),
+                ..MfcReply::default()
+            },
+            Err(why) => MfcReply {
+                refusal: why.number(),
+                ..MfcReply::default()
+            },
+        }
     }
 }
 
@@ -286,8 +233,8 @@ fn of_read(r: ReadReply) -> MfcReply
 pub extern "C" fn mfc_read_reply(address: u8, request: u8, value: u32, body: &[u8]) -> MfcReply
     ensures { result ≡ read_answer address request value body.now }
 {
-    match sfc6::request_of(place(request), value) {
-        Typed::Refused(r) => not_read(r),
-        Typed::Known(asked) => of_read(replies::read_reply(address, asked, body)),
+    match sfc6::request_of(usize::from(request), value) {
+        Ok(asked) => replies::read_reply(address, asked, body).into(),
+        Err(why) => Err(why).into(),
     }
 }

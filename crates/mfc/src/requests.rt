@@ -1,7 +1,7 @@
 // Requests of the SFC6 family by their numbers, written and read.
 ghost use Rattle.std.specs.Prelude.{◌≡◌};
 ghost use Rattle.shdlc.specs.Checksum.{checksum_of};
-ghost use Rattle.sfc6.specs.Paper.{paper_read};
+ghost use Rattle.refusal.specs.Refusals.{answered};
 ghost use Rattle.sfc6.specs.Reading.{read_request};
 ghost use Rattle.sfc6.specs.Commands.{place_of};
 ghost use Rattle.sfc6.specs.Requests.{write_numbered};
@@ -9,8 +9,9 @@ ghost use Rattle.sfc6.specs.Rounds.{append_numbered};
 ghost use Rattle.mfc.specs.Answers.{written, beside};
 ghost use Rattle.mfc.specs.Requests.{request};
 
-use crate::answers::{MfcRequest, MfcWritten, of_written};
-use sfc6::{ReadRequest, Request};
+use crate::answers::{MfcRequest, MfcWritten};
+use refusal::Refusal;
+use sfc6::Request;
 
 // The checksum of the n bytes of a body before it: 255 minus their sum modulo 256. It refuses nothing.
 #[unsafe(no_mangle)]
@@ -18,18 +19,6 @@ pub extern "C" fn mfc_checksum(bytes: &[u8]) -> u8
     ensures { result ≡ checksum_of bytes.now }
 {
     shdlc::checksum(bytes)
-}
-
-pub(crate) fn place(number: u8) -> usize
-    ensures { result ≡ number }
-{
-    number as usize
-}
-
-pub(crate) fn wide(a: u8) -> u32
-    ensures { result ≡ a }
-{
-    a as u32
 }
 
 // Writes the frame of a request. Refusals, in their order: 11 for a request over 20; 12 for an address over 254 to be set, or a baud that
@@ -44,7 +33,7 @@ pub extern "C" fn mfc_write_request(
 ) -> MfcWritten
     ensures { (result, out.new) ≡ beside written (write_numbered address request value out.old) }
 {
-    of_written(sfc6::write_numbered(address, place(request), value, out))
+    sfc6::write_numbered(address, usize::from(request), value, out).into()
 }
 
 // Writes the frame of a request into a buffer from start on, as one frame of a polling round; all else in the buffer stays. The length
@@ -59,32 +48,32 @@ pub extern "C" fn mfc_write_request_at(
 ) -> MfcWritten
     ensures { (result, buffer.new) ≡ beside written (append_numbered buffer.old start address request value) }
 {
-    of_written(sfc6::append_numbered(buffer, start, address, place(request), value))
+    sfc6::append_numbered(buffer, start, address, usize::from(request), value).into()
 }
 
-// The number of a request.
+// The number of a request. No From: neither type is this crate's.
 fn number_of(request: Request) -> u8
     ensures { result ≡ place_of request }
 {
     sfc6::place_of(request) as u8
 }
 
-fn of_read(r: ReadRequest) -> MfcRequest
-    ensures { result ≡ request (paper_read r) }
-{
-    match r {
-        ReadRequest::Done(address, request) => MfcRequest {
-            refusal: 0,
-            address: address,
-            request: number_of(request),
-            value: sfc6::value_of(request),
-        },
-        ReadRequest::Refused(why) => MfcRequest {
-            refusal: refusal::number(why),
-            address: 0,
-            request: 0,
-            value: 0,
-        },
+impl From<Result<(u8, Request), Refusal>> for MfcRequest {
+    ghost from_gives = { λ answer struct. struct ≡ request (answered answer) };
+
+    fn from(answer: Result<(u8, Request), Refusal>) -> MfcRequest {
+        match answer {
+            Ok((address, asked)) => MfcRequest {
+                refusal: 0,
+                address,
+                request: number_of(asked),
+                value: sfc6::value_of(asked),
+            },
+            Err(why) => MfcRequest {
+                refusal: why.number(),
+                ..MfcRequest::default()
+            },
+        }
     }
 }
 
@@ -95,5 +84,5 @@ fn of_read(r: ReadRequest) -> MfcRequest
 pub extern "C" fn mfc_read_request(body: &[u8]) -> MfcRequest
     ensures { result ≡ request (read_request body.now) }
 {
-    of_read(sfc6::read_request(body))
+    sfc6::read_request(body).into()
 }

@@ -3,11 +3,23 @@
 #![tactic(auto)]
 
 ghost use Rattle.std.specs.Prelude.{◌≡◌};
+ghost use Rattle.refusal.specs.Refusals.{answered};
 ghost use Rattle.board.specs.Listing.{numbered_list};
 ghost use Rattle.replay.specs.Replay.{replay};
 
 use board::entries::Entry;
 use board::listing::Listed;
+use board::table::lay;
+use refusal::Refusal;
+
+// The replay's list, laid in the lent room.
+#[tactic(auto, using(crate::proofs::Laid::laying))]
+fn lay_replay(file: &[u8], lease: u32, entries: &mut [Entry]) -> Result<usize, Refusal>
+    ensures { (answered result, entries.new) ≡ replay file.now lease entries.old }
+{
+    let list = replay::replay(file, lease, entries.len())?;
+    Ok(lay(entries, list.as_slice()))
+}
 
 // Runs a log through the receivers again, oldest record first: request-side bytes to a receiver of requests, reply-side bytes to one of
 // replies, and a silence mark to both, which is also one poll. A reply frame is read against the latest request frame, and skipped where
@@ -20,6 +32,5 @@ use board::listing::Listed;
 pub extern "C" fn mfc_log_replay(file: &[u8], lease: u32, entries: &mut [Entry]) -> Listed
     ensures { (result, entries.new) ≡ numbered_list (replay file.now lease entries.old) }
 {
-    let s = replay::replay(file, lease, entries.len());
-    board::table::lay(entries, s)
+    lay_replay(file, lease, entries).into()
 }

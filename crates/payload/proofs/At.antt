@@ -1,22 +1,30 @@
 -- Fields at a place: the cases of reading one and of writing one, and that what is written is read back. Assumes nothing.
 use mathlib.Core.Path.{◌≡◌, sym, ap, ◌∙◌}
-use mathlib.Core.Bool.{Bool, true, false}
 use mathlib.Core.List.{List, ◌++◌}
-use Prim.Native.Nat.{ℕ, ◌+◌, ◌/◌, ◌^◌, ◌≤◌, ◌<◌}
+use Prim.Native.Nat.{ℕ, ◌+◌, ◌-◌, ◌^◌, ◌≤◌, ◌<◌}
 use native.Mathlib.Omega.{arith}
-use lib.Dec.{ltb}
-use borrow.Author.Tests.{ltb-true, ltb-false, lt-ltb, le-ltb, le-leb, lt-leb}
+use borrow.Author.Tests.{lt-ltb, le-ltb, lt-leb}
 use lib.ListN.{length, take, drop, length-append, length-drop}
 use lib.Seq.{take_at, take_all, drop_at, length-take-le}
 use Rattle.refusal.specs.declared.Refusal.{Refusal}
-use Rattle.refusal.specs.Refusals.{Numbered, number, Answered, served, refused}
-use Rattle.refusal.proofs.Order.{refused_not_served}
-use Rattle.payload.specs.declared.fields.Placed.{Placed}
-use Rattle.payload.specs.declared.fields.Placed.TheVariants.{Next, Refused}
+use Rattle.std.specs.Prelude.{slice_range, Option, Some, None, Result, Ok, MatchOption}
+use Rattle.std.specs.Option.{ok_or}
+use Rattle.refusal.specs.declared.Refusal.TheVariants.{OutOfRange}
+use Rattle.refusal.specs.Refusals.{number, Answered, served, refused, answered, answered_as}
 use Rattle.refusal.specs.Room.{overlay}
-use Rattle.refusal.proofs.Room.{overlay_then}
-use Rattle.payload.specs.Field.{big, big_endian, taken_at, put_at, paper_placed}
-use Rattle.payload.proofs.Big.{length-big_endian, big_of_big_endian, big_endian_split}
+use Rattle.payload.specs.declared.fields.Width.{Width}
+use Rattle.payload.specs.declared.fields.Width.TheVariants.{One, Two, Four}
+use Rattle.payload.specs.Field.{big, big_endian, bytes_in, taken_at, put_at}
+use Rattle.payload.proofs.Big.{length-big_endian, big_of_big_endian}
+
+pub width_pos : (width : Width) → 0 < bytes_in width
+width_pos One = omega arith
+width_pos Two = omega arith
+width_pos Four = omega arith
+
+-- what the library's `payload.get(place..)` answers
+pub rest_is : (payload : List ℕ) (place : ℕ) {l : List ℕ} → l ≡ slice_range payload place (length payload) → l ≡ drop place payload
+rest_is payload place e = e ∙ take_all (length payload - place) (drop place payload) (omega (arith, length-drop place payload))
 
 module _ (payload : List ℕ) (place width : ℕ) where
   pub taken_refused : length payload < place + width → taken_at payload place width ≡ (refused (number 12), place)
@@ -28,78 +36,40 @@ module _ (payload : List ℕ) (place width : ℕ) where
   unfolding taken_at
   taken_served h = rw (le-ltb _ _ h)
 
-  -- the same, as a test that is known to be this one decides
-  pub past_end : {t : Bool} → t ≡ true → t ≡ ltb (length payload) (place + width) → taken_at payload place width ≡ (refused (number 12), place)
-  past_end is e = taken_refused (ltb-true _ _ (sym e ∙ is))
+  -- the number that bytes from the place on begin with, or 12 where there is none
+  pub taken_as : {A : Type 0} (says : A → ℕ) {l : List ℕ} (found : Option A) → l ≡ drop place payload → place ≤ length payload
+      → MatchOption found (length l < width) (λ n. (width ≤ length l) × (says n ≡ big (take width l)))
+      → answered_as says (ok_or found OutOfRange) ≡ (taken_at payload place width).0
+  taken_as says (Some n) e within is =
+      ap served (is.1 ∙ ap (λ (m : List ℕ). big (take width m)) e)
+      ∙ ap (λ (o : Answered ℕ × ℕ). o.0) (sym (taken_served (omega (arith, is.0, ap length e, length-drop place payload))))
+  taken_as says None e within is = ap (λ (o : Answered ℕ × ℕ). o.0) (sym (taken_refused (omega (arith, ap length e, length-drop place payload))))
 
-  pub fits : {t : Bool} → t ≡ false → t ≡ ltb (length payload) (place + width) → place + width ≤ length payload
-  fits is e = ltb-false _ _ (sym e ∙ is)
+-- a field that ends a payload, and one that is all of it
+pub taken_rest : (payload : List ℕ) (place width : ℕ) → length payload ≡ place + width → (taken_at payload place width).0 ≡ served (big (drop place payload))
+taken_rest payload place width e =
+    ap (λ (o : Answered ℕ × ℕ). o.0) (taken_served payload place width (omega arith))
+    ∙ ap (λ (l : List ℕ). served (big l)) (take_all width (drop place payload) (omega (arith, length-drop place payload)))
 
-  pub within : {t : Bool} → t ≡ false → t ≡ ltb (length payload) (place + width)
-      → taken_at payload place width ≡ (served (big (take width (drop place payload))), place + width)
-  within is e = taken_served (fits is e)
-
--- a field that is all of a payload, and one of four bytes that is all but the first
 pub taken_whole : (payload : List ℕ) (width : ℕ) → length payload ≡ width → (taken_at payload 0 width).0 ≡ served (big payload)
-taken_whole payload width e =
-    ap (λ (o : Answered ℕ × ℕ). o.0) (taken_served payload 0 width (omega arith))
-    ∙ ap (λ (l : List ℕ). served (big l)) (take_all width payload (omega arith))
-
-pub taken_after : (payload : List ℕ) → length payload ≡ 5 → (taken_at payload (taken_at payload 0 1).1 4).0 ≡ served (big (drop 1 payload))
-taken_after payload e =
-    let one : (taken_at payload 0 1).1 ≡ 1 = ap (λ (o : Answered ℕ × ℕ). o.1) (taken_served payload 0 1 (omega arith)) in
-    ap (λ (k : ℕ). (taken_at payload k 4).0) one
-    ∙ ap (λ (o : Answered ℕ × ℕ). o.0) (taken_served payload 1 4 (omega arith))
-    ∙ ap (λ (l : List ℕ). served (big l)) (take_all 4 (drop 1 payload) (omega (arith, length-drop 1 payload)))
-
--- what was taken, where that is known
-pub taken_number : {n m : ℕ} {a b : Answered ℕ} → served n ≡ a → a ≡ b → b ≡ served m → n ≡ m
-taken_number {n} {m} e f g = let h : served n ≡ served m = e ∙ f ∙ g in cc
-
-pub taken_never : {A : Type 0} {n : Numbered} {m : ℕ} {a b : Answered ℕ} → refused n ≡ a → a ≡ b → b ≡ served m → A
-taken_never e f g = absurd (refused_not_served (e ∙ f ∙ g))
+taken_whole payload width e = taken_rest payload 0 width (omega arith)
 
 module _ (room : List ℕ) (place width n : ℕ) where
-  pub put_out_of_range : 256 ^ width ≤ n → put_at room place width n ≡ (refused (number 12), room)
-  unfolding put_at
-  put_out_of_range h = rw (le-leb _ _ h)
-
-  pub put_no_room : n < 256 ^ width → length room < place + width → put_at room place width n ≡ (refused (number 1), room)
-  unfolding put_at
-  put_no_room f h = rw (lt-leb _ _ f, lt-ltb _ _ h)
-
   pub put_served : n < 256 ^ width → place + width ≤ length room
       → put_at room place width n ≡ (served (place + width), overlay room place (big_endian width n))
   unfolding put_at
   put_served f h = rw (lt-leb _ _ f, le-ltb _ _ h)
 
-  -- the same, of a count and a room that are known to be these
-  pub put_served_as : {size : ℕ} {after : List ℕ} → n < 256 ^ width → place + width ≤ length room → size ≡ width
-      → after ≡ overlay room place (big_endian width n) → put_at room place width n ≡ (served (place + size), after)
-  put_served_as f h e g = rw (e, g) (put_served f h)
-
 -- a number that fits its bytes is put into room that is there
-module _ (room : List ℕ) (place width n : ℕ) (small : n < 256 ^ width) (there : place + width ≤ length room) (p : Placed) (w : List ℕ)
-    (is : (paper_placed p, w) ≡ put_at room place width n) where
-  put : ◌≡◌ {A = Answered ℕ × List ℕ} (paper_placed p, w) (served (place + width), overlay room place (big_endian width n))
+module _ (room : List ℕ) (place width n : ℕ) (small : n < 256 ^ width) (there : place + width ≤ length room) (p : Result ℕ Refusal)
+    (w : List ℕ) (is : (answered p, w) ≡ put_at room place width n) where
+  put : ◌≡◌ {A = Answered ℕ × List ℕ} (answered p, w) (served (place + width), overlay room place (big_endian width n))
   put = is ∙ put_served room place width n small there
 
-  pub put_there : (next : ℕ) → p ≡ Next next → (next ≡ place + width) × (w ≡ overlay room place (big_endian width n))
+  pub put_there : (next : ℕ) → p ≡ Ok next → (next ≡ place + width) × (w ≡ overlay room place (big_endian width n))
   put_there next e =
-      let f : served next ≡ served (place + width) = sym (ap paper_placed e) ∙ ap (λ (o : Answered ℕ × List ℕ). o.0) put in
+      let f : served next ≡ served (place + width) = sym (ap answered e) ∙ ap (λ (o : Answered ℕ × List ℕ). o.0) put in
       (cc, ap (λ (o : Answered ℕ × List ℕ). o.1) put)
-
-  pub put-not : {A : Type 0} (why : Refusal) → p ≡ Refused why → A
-  put-not why e = absurd (refused_not_served (sym (ap paper_placed e) ∙ ap (λ (o : Answered ℕ × List ℕ). o.0) put))
-
--- a number written in two parts
-pub put_halves : (room : List ℕ) (place a b n : ℕ) {first last : List ℕ} → place + (a + b) ≤ length room
-    → first ≡ overlay room place (big_endian a (n / 256 ^ b)) → last ≡ overlay first (place + a) (big_endian b n)
-    → last ≡ overlay room place (big_endian (a + b) n)
-put_halves room place a b n h e f =
-    let long : place ≤ length room = omega arith in
-    let next : place + a ≡ place + length (big_endian a (n / 256 ^ b)) = ap (λ (m : ℕ). place + m) (sym (length-big_endian a (n / 256 ^ b))) in
-    rw (f, e, big_endian_split a b n) (overlay_then room place _ _ (place + a) long next)
 
 -- the bytes of a number, wherever they stand, are read as that number
 pub taken_of_bytes : (front back : List ℕ) (place count n : ℕ) → length front ≡ place → n < 256 ^ count

@@ -2,12 +2,13 @@
 use mathlib.Core.Path.{◌≡◌, refl, sym, ap, ◌∙◌}
 use mathlib.Core.List.{List, [], ◌∷◌, ◌++◌}
 use Prim.Native.Nat.{ℕ, zero, suc, ◌+◌, ◌*◌, ◌/◌, ◌%◌, ◌^◌, ◌≤◌, ◌<◌}
-use native.Mathlib.Nat.{pow-succ', pow-zero, zero-mul, zero-add, suc-add, mul_comm, add-mul, mul_assoc, add_assoc, one-le-pow, mod-one, mod-lt, mod-eq_of_lt, div-div-eq-div-mul, mul-add-div_right, mul-add-mod_self_right}
+use native.Mathlib.Nat.{pow-succ', pow-zero, div-one, zero-mul, zero-add, add-mul, mul_assoc, add_assoc, one-le-pow, mod-one, mod-lt, mod-eq_of_lt, mul-add-div_right, mul-add-mod_self_right}
 use native.Mathlib.Omega.{arith}
 use lib.Arith.{digits_lt, digits_div, mod-mul}
 use lib.ListN.{length, get_or, take, drop, length-append, length-drop}
 use lib.Pow.{pow-add}
 use lib.Seq.{take-add, drop-drop, drop-cons, length-take-le, get_or-drop}
+use Rattle.std.specs.Int.{bytes_high_first}
 use Rattle.payload.specs.Field.{big, big_endian, Bytes}
 
 power_pos : (count : ℕ) → 0 < 256 ^ count
@@ -80,14 +81,35 @@ big_split l place a b h =
     let long : b ≤ length (drop (place + a) l) = simp length-drop (omega arith) in
     rw (take-add a b (drop place l), big-append (take a (drop place l)) (take b (drop a (drop place l))), drop-drop a place l, length-take-le b (drop (place + a) l) long)
 
--- the bytes of a number are those of its high part and then those of its low part
-pub big_endian_split : (a b n : ℕ) → big_endian (a + b) n ≡ big_endian a (n / 256 ^ b) ++ big_endian b n
-unfolding big_endian
-big_endian_split zero b n = rw zero-add
-big_endian_split (suc a) b n =
-    let e : 256 ^ (a + b) ≡ 256 ^ b * 256 ^ a = pow-add 256 a b ∙ mul_comm (256 ^ a) (256 ^ b) in
-    rw (suc-add a b, e, ← div-div-eq-div-mul n (256 ^ b) (256 ^ a), big_endian_split a b n)
-
 pub big-one : (l : List ℕ) (place : ℕ) → place < length l → big (take 1 (drop place l)) ≡ get_or l place 0
 unfolding big
 big-one l place h = rw (drop-cons l place 0 h) (omega arith)
+
+-- the number that the library makes of one, two and four bytes at the front of a list, and the bytes that it makes of a number
+pub big_1 : (l : List ℕ) → 1 ≤ length l → get_or l 0 0 ≡ big (take 1 l)
+big_1 l h = sym (big-one l 0 h)
+
+pub big_2 : (l : List ℕ) → 2 ≤ length l → get_or l 0 0 * 256 + get_or l 1 0 ≡ big (take 2 l)
+big_2 l h =
+    let whole = big_split l 0 1 1 h in
+    let first = big-one l 0 (omega arith) in
+    let second = big-one l 1 (omega arith) in
+    omega (arith, whole, first, second)
+
+pub big_4 : (l : List ℕ) → 4 ≤ length l
+    → get_or l 0 0 * 256 ^ 3 + get_or l 1 0 * 256 ^ 2 + get_or l 2 0 * 256 + get_or l 3 0 ≡ big (take 4 l)
+big_4 l h =
+    let whole = big_split l 0 2 2 h in
+    let front = big_split l 0 1 1 (omega arith) in
+    let back = big_split l 2 1 1 (omega arith) in
+    let first = big-one l 0 (omega arith) in
+    let second = big-one l 1 (omega arith) in
+    let third = big-one l 2 (omega arith) in
+    let fourth = big-one l 3 (omega arith) in
+    omega (arith, whole, front, back, first, second, third, fourth)
+
+pub big_endian_is : (count n : ℕ) → bytes_high_first count n ≡ big_endian count n
+unfolding big_endian
+big_endian_is zero n = refl
+big_endian_is (suc zero) n = simp (pow-zero, div-one)
+big_endian_is (suc (suc count)) n = ap (λ (l : List ℕ). n / 256 ^ suc count % 256 ∷ l) (big_endian_is (suc count) n)

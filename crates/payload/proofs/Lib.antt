@@ -1,4 +1,3 @@
 -- The laws of the definitions in specs/.
 pub mod Big
 pub mod At
-pub mod OneToOne

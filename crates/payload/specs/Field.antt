@@ -1,18 +1,10 @@
 -- The fields of a payload, read and written. 01, Commands of the SFC6 family: "Numbers are big-endian. [..] Use a reader that carries
 -- the payload and its place for the typed fields (a plain-parameter form comes first)."
 use Rattle.std.specs.Prelude.{ℕ, zero, suc, ◌+◌, ◌*◌, ◌/◌, ◌%◌, ◌^◌, ◌<◌, List, [], ◌∷◌, cond, ltb, leb, length, take, drop, get_or}
-use Rattle.refusal.specs.Refusals.{number, Answered, served, refused, paper}
+use Rattle.refusal.specs.Refusals.{number, Answered, served, refused}
 use Rattle.refusal.specs.Room.{overlay}
 use Rattle.payload.specs.declared.fields.Width.{Width}
 use Rattle.payload.specs.declared.fields.Width.TheVariants.{One, Two, Four}
-use Rattle.payload.specs.declared.fields.FieldU8.{FieldU8}
-use Rattle.payload.specs.declared.fields.FieldU8.TheVariants as u8
-use Rattle.payload.specs.declared.fields.FieldU16.{FieldU16}
-use Rattle.payload.specs.declared.fields.FieldU16.TheVariants as u16
-use Rattle.payload.specs.declared.fields.FieldU32.{FieldU32}
-use Rattle.payload.specs.declared.fields.FieldU32.TheVariants as u32
-use Rattle.payload.specs.declared.fields.Placed.{Placed}
-use Rattle.payload.specs.declared.fields.Placed.TheVariants as placed
 
 -- the number that bytes stand for, the most significant first
 unfoldable pub big : List ℕ → ℕ
@@ -48,19 +40,7 @@ put_at room place width n =
     cond (leb (256 ^ width) n) (refused (number 12), room)
     (cond (ltb (length room) (place + width)) (refused (number 1), room) (served (place + width), overlay room place (big_endian width n)))
 
--- the enums of the code in 01's words
-abbrev pub paper_u8 : FieldU8 → Answered ℕ
-paper_u8 (u8.Value n) = served n
-paper_u8 (u8.Refused r) = refused (paper r)
-
-abbrev pub paper_u16 : FieldU16 → Answered ℕ
-paper_u16 (u16.Value n) = served n
-paper_u16 (u16.Refused r) = refused (paper r)
-
-abbrev pub paper_u32 : FieldU32 → Answered ℕ
-paper_u32 (u32.Value n) = served n
-paper_u32 (u32.Refused r) = refused (paper r)
-
-abbrev pub paper_placed : Placed → Answered ℕ
-paper_placed (placed.Next next) = served next
-paper_placed (placed.Refused r) = refused (paper r)
+-- bytes laid at a place of lent room that has room for them: the last case of `put_at`
+abbrev pub laid_at : List ℕ → ℕ → List ℕ → Answered ℕ × List ℕ
+laid_at room place bytes =
+    cond (ltb (length room) (place + length bytes)) (refused (number 1), room) (served (place + length bytes), overlay room place bytes)

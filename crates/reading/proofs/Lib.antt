@@ -2,4 +2,3 @@ pub mod SignedLaws
 pub mod Rounding
 pub mod Scale
 pub mod Exact
-pub mod OneToOne

@@ -1,12 +1,13 @@
 -- The test of a scale, as the code makes it, and what a good one is. Assumes nothing.
 use mathlib.Core.Path.{◌≡◌, refl, sym, subst}
-use mathlib.Core.Bool.{Bool, true, false, ◌&&◌}
-use Prim.Native.Nat.{◌^◌, ◌≤◌, ◌<◌}
+use mathlib.Core.Bool.{Bool, true, false, cond, ◌&&◌}
+use Prim.Native.Nat.{ℕ, ◌^◌, ◌≤◌, ◌<◌}
 use native.Mathlib.Omega.{arith}
 use lib.Dec.{T, leb}
 use lib.IntN.{ℤ, pos, negsuc, nat_abs}
 use lib.Signed.{lt_z}
 use borrow.Author.Tests.{ltb-true, ltb-false, leb-true, le-leb, lt-leb}
+use Rattle.refusal.specs.Refusals.{Numbered, number, Answered, served, refused}
 use Rattle.reading.specs.Reading.{good_scale}
 
 pub scale_low : (z : ℤ) → lt_z z (pos 1) ≡ true → good_scale z ≡ false
@@ -35,3 +36,26 @@ good_size (pos n) e = both (leb 1 n) refl (leb n 32767) refl e
     both true p false q e = absurd (subst T (sym e) tt)
     both false p t q e = absurd (subst T (sym e) tt)
 good_size (negsuc n) e = absurd (subst T (sym e) tt)
+
+-- what the checked scale's answer says
+pub scale_refused : (z : ℤ) (n : Numbered) → refused n ≡ cond {A = Answered ℕ} (good_scale z) (served (nat_abs z)) (refused (number 18))
+    → (good_scale z ≡ false) × (n ≡ number 18)
+scale_refused z n = go (good_scale z) refl
+  where
+    go : (t : Bool) → good_scale z ≡ t → refused n ≡ cond {A = Answered ℕ} t (served (nat_abs z)) (refused (number 18)) → (good_scale z ≡ false) × (n ≡ number 18)
+    go true e f = cc
+    go false e f = (e, cc)
+
+pub scale_served : (z : ℤ) (s : ℕ) → served s ≡ cond {A = Answered ℕ} (good_scale z) (served (nat_abs z)) (refused (number 18))
+    → (good_scale z ≡ true) × (s ≡ nat_abs z)
+scale_served z s = go (good_scale z) refl
+  where
+    go : (t : Bool) → good_scale z ≡ t → served s ≡ cond {A = Answered ℕ} t (served (nat_abs z)) (refused (number 18)) → (good_scale z ≡ true) × (s ≡ nat_abs z)
+    go true e f = (e, cc)
+    go false e f = cc
+
+-- a good scale is a number with no sign
+pub good_pos : (z : ℤ) → good_scale z ≡ true → pos (nat_abs z) ≡ z
+unfolding good_scale
+good_pos (pos n) e = refl
+good_pos (negsuc n) e = absurd (subst T (sym e) tt)

@@ -3,11 +3,7 @@ use Rattle.std.specs.Prelude.{ℕ, suc, ◌+◌, ◌*◌, ◌/◌, ◌≤◌, �
 use Rattle.std.specs.Int.Signed.{le_z}
 use Rattle.std.specs.Float.{binary32}
 use Rattle.std.specs.Float.Ieee.{div, of_int}
-use Rattle.refusal.specs.Refusals.{number, paper, Answered, served, refused}
-use Rattle.reading.specs.declared.Thousandths.{Thousandths}
-use Rattle.reading.specs.declared.Thousandths.TheVariants as thousandths
-use Rattle.reading.specs.declared.Quantity.{Quantity}
-use Rattle.reading.specs.declared.Quantity.TheVariants as quantities
+use Rattle.refusal.specs.Refusals.{number, Answered, served, refused}
 
 -- 01, Words on I2C: scale 1 to 32,767
 unfoldable pub good_scale : ℤ → Bool
@@ -40,12 +36,3 @@ in_thousandths raw offset scale = cond (good_scale scale) (served (rounded ((raw
 -- 01, Words on I2C: a float form is (raw - offset) / scale in single precision, one division, both operands exact; else 18
 unfoldable pub quantity : ℤ → ℤ → ℤ → Answered Float
 quantity raw offset scale = cond (good_scale scale) (served (div binary32 (of_int binary32 (raw -ℤ offset)) (of_int binary32 scale))) (refused (number 18))
-
--- the answers, case by case
-abbrev pub paper_thousandths : Thousandths → Answered ℤ
-paper_thousandths (thousandths.Value q) = served q
-paper_thousandths (thousandths.Refused r) = refused (paper r)
-
-abbrev pub paper_quantity : Quantity → Answered Float
-paper_quantity (quantities.Value x) = served x
-paper_quantity (quantities.Refused r) = refused (paper r)

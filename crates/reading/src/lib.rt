@@ -2,37 +2,26 @@
 #![tactic(auto)]
 
 ghost use Rattle.std.specs.Prelude.{◌≡◌, cond, ◌+◌, ◌*◌, ◌/◌, ◌≤◌, ◌<◌, ◌^◌, pos, neg_ℤ, nat_abs, ◌-ℤ◌, ◌*ℤ◌};
-ghost use Rattle.reading.specs.Reading.{rounded, paper_thousandths, in_thousandths, paper_quantity, quantity};
+ghost use Rattle.refusal.specs.Refusals.{number, served, refused, answered};
+ghost use Rattle.reading.specs.Reading.{good_scale, rounded, in_thousandths, quantity};
 
 use refusal::Refusal;
-
-// A reading in thousandths of the unit, or why there is none.
-#[derive(Clone, Copy)]
-pub enum Thousandths {
-    Value(i32),
-    Refused(Refusal),
-}
-
-// A reading in single precision, or why there is none.
-#[derive(Clone, Copy)]
-pub enum Quantity {
-    Value(f32),
-    Refused(Refusal),
-}
 
 // raw - offset, exactly.
 fn difference(raw: i16, offset: i16) -> i32
     ensures { (result ≡ raw -ℤ offset) × (nat_abs result < 2 ^ 16) }
 {
-    (raw as i32) - (offset as i32)
+    i32::from(raw) - i32::from(offset)
 }
 
-// The number without its sign.
-fn size(d: i32) -> u32
-    requires { nat_abs d < 2 ^ 31 }
-    ensures { result ≡ nat_abs d }
+// A scale in its range.
+fn checked(scale: i32) -> Result<u16, Refusal>
+    ensures { answered result ≡ cond (good_scale scale) (served (nat_abs scale)) (refused (number 18)) }
 {
-    if d < 0 { -d as u32 } else { d as u32 }
+    if scale < 1 || 32767 < scale {
+        return Err(Refusal::BadScale);
+    }
+    Ok(scale as u16)
 }
 
 fn with_sign(negative: bool, m: u32) -> i32
@@ -55,32 +44,22 @@ fn over_scale(d: i32, scale: u32) -> i32
     requires { (nat_abs d < 2 ^ 16) × (1 ≤ scale) × (scale < 2 ^ 15) }
     ensures { result ≡ rounded (d *ℤ pos 1000) scale }
 {
-    with_sign(d < 0, nearest(size(d) * 1000, scale))
+    with_sign(d < 0, nearest(d.unsigned_abs() * 1000, scale))
 }
 
 // The reading in thousandths of the unit.
-pub fn scaled(raw: i16, offset: i16, scale: i32) -> Thousandths
-    ensures { paper_thousandths result ≡ in_thousandths raw offset scale }
+pub fn scaled(raw: i16, offset: i16, scale: i32) -> Result<i32, Refusal>
+    ensures { answered result ≡ in_thousandths raw offset scale }
 {
-    if scale < 1 {
-        return Thousandths::Refused(Refusal::BadScale);
-    }
-    if 32767 < scale {
-        return Thousandths::Refused(Refusal::BadScale);
-    }
-    Thousandths::Value(over_scale(difference(raw, offset), scale as u32))
+    let scale = checked(scale)?;
+    Ok(over_scale(difference(raw, offset), u32::from(scale)))
 }
 
 // The reading in single precision: one division of two numbers that single precision holds exactly.
-pub fn scaled_float(raw: i16, offset: i16, scale: i32) -> Quantity
-    ensures { paper_quantity result ≡ quantity raw offset scale }
+pub fn scaled_float(raw: i16, offset: i16, scale: i32) -> Result<f32, Refusal>
+    ensures { answered result ≡ quantity raw offset scale }
 {
-    if scale < 1 {
-        return Quantity::Refused(Refusal::BadScale);
-    }
-    if 32767 < scale {
-        return Quantity::Refused(Refusal::BadScale);
-    }
+    let scale = checked(scale)?;
     let d = difference(raw, offset);
-    Quantity::Value((d as f32) / (scale as f32))
+    Ok((d as f32) / f32::from(scale))
 }

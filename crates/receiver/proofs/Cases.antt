@@ -6,16 +6,13 @@ use mathlib.Core.Bool.{Bool, true, false, cond, not, ◌&&◌, false≢true}
 use mathlib.Core.List.{List, [], ◌∷◌}
 use borrow.Author.Tests.{ltb-true, lt-ltb, le-ltb, eqb-true}
 use lib.Dec.{ltb, eqb}
-use lib.ListN.{length, get_or}
-use Rattle.refusal.specs.Refusals.{Numbered, number, served, refused}
-use Rattle.refusal.specs.Room.{overlay}
+use lib.ListN.{length}
+use Rattle.refusal.specs.Refusals.{Numbered, refused}
 use Rattle.shdlc.specs.Stream.{Item}
 use Rattle.receiver.specs.declared.Receiver.{Receiver}
 use Rattle.receiver.specs.declared.Fed.{Fed}
-use Rattle.receiver.specs.declared.Scanned.{Scanned}
-use Rattle.receiver.specs.Record.{Record, held, number_of_mode, mode_of, outside_of, length_in_range, in_range, Act, Store, Become, Discard, act_of, pushed, acted, opened, silenced, pending_in, pending, item_of, next_byte}
-use Rattle.receiver.specs.Calls.{gave, Outcome, said_of, buffer_of, Scan, scanned_as, paper_fed, refused_call, completed, unfinished, closes, scan_from, fed_by, cut_off, after_mark, heard, feed_of, noise_of}
-use Rattle.receiver.proofs.Modes.{pending_by_number}
+use Rattle.receiver.specs.Record.{Record, held, outside_of, length_in_range, in_range, Act, Store, Become, Discard, act_of, pushed, acted, opened, silenced, pending, item_of, next_byte}
+use Rattle.receiver.specs.Calls.{gave, Outcome, said_of, buffer_of, Scan, paper_fed, refused_call, completed, unfinished, closes, scan_from, fed_by, cut_off, after_mark, heard, feed_of}
 
 -- a test of the code that is negated
 pub not_true : (t : Bool) → not t ≡ true → t ≡ false
@@ -83,9 +80,6 @@ module _ (silence : Bool) (r : Receiver) (store : List ℕ) where
       go true = refl
       go false = refl
 
-  pub mark_cuts : (m : ℕ) {t : Bool} → m ≡ number_of_mode r.mode → t ≡ (silence && pending_in (mode_of m) r.len) → (silence && pending (held r store)) ≡ t
-  mark_cuts m e q = ap (λ (t : Bool). silence && t) (pending_by_number r.mode m r.len e refl) ∙ sym q
-
 -- a mark that cuts off is one
 pub cut-marks : (silence : Bool) (r : Record) → (silence && pending r) ≡ true → after_mark silence r ≡ silenced r
 cut-marks true r h = refl
@@ -100,25 +94,11 @@ pub noise-mark : (silence : Bool) (r : Record) → (after_mark silence r).noise 
 noise-mark true r = refl
 noise-mark false r = refl
 
--- asking for the noise count
-module _ (r : Record) where
-  pub noise_range : in_range r ≡ false → noise_of r ≡ refused (number 2)
-  unfolding noise_of
-  noise_range h = rw h
-
-  pub noise-told : in_range r ≡ true → noise_of r ≡ served r.noise
-  unfolding noise_of
-  noise-told h = rw h
-
 abbrev shown : Record → ℕ → List ℕ → Item → Outcome
 shown r taken buffer item = record { leaves = opened r; result = record { said = said_of item; taken = taken; buffer = buffer_of item buffer } }
 
 -- an item completed, by what the code's judgement says of it
 module _ (r : Record) (taken : ℕ) (buffer : List ℕ) where
-  pub completed-frame : (body : List ℕ) → item_of r ≡ served body
-      → completed r taken buffer ≡ record { leaves = opened r; result = record { said = gave (served (length body)); taken = taken; buffer = overlay buffer 0 body } }
-  completed-frame body e = ap (shown r taken buffer) e
-
   pub completed_refused : (n : Numbered) → item_of r ≡ refused n
       → completed r taken buffer ≡ record { leaves = opened r; result = record { said = gave (refused n); taken = taken; buffer = buffer } }
   completed_refused n e = ap (shown r taken buffer) e
@@ -156,15 +136,6 @@ taken_within f store after r silence piece buffer e =
 one_taken : (r : Record) (b : ℕ) → (scan_from 0 r (b ∷ [])).taken ≡ 1
 unfolding scan_from
 one_taken r b = by_test (λ (s : Scan). s.taken ≡ 1) (closes r b) refl refl
-
-pub one_byte_lem : (s : Scanned) (store : List ℕ) (r : Record) (piece : List ℕ) → length piece ≡ 1
-    → scanned_as s store ≡ scan_from 0 r (get_or piece 0 0 ∷ [])
-    → ◌≡◌ {A = Scan} (record { before = held s.receiver store; taken = 1; closed = s.closed }) (scan_from 0 r piece)
-one_byte_lem s store r [] h e = absurd (omega arith)
-one_byte_lem s store r (b ∷ []) h e =
-    ap (λ (n : ℕ). record { before = held s.receiver store; taken = n; closed = s.closed })
-    (sym (ap (λ (x : Scan). x.taken) e ∙ one_taken r b)) ∙ e
-one_byte_lem s store r (a ∷ b ∷ piece) h e = absurd (omega arith)
 
 -- no call changes the kind
 pub kind_acted : (r : Record) (a : Act) → (acted r a).kind ≡ r.kind

@@ -11,10 +11,10 @@ use lib.ListN.{length, take, drop, length-append, length-take, length-drop, take
 use lib.Seq.{take_all, drop-append-le}
 use Rattle.refusal.proofs.Rest.{rest_end}
 use Rattle.shdlc.specs.Stuffing.{stuff_byte, stuff, reported_place}
-use Rattle.shdlc.proofs.Stuffing.{stuff-append, stuff-one, stuff_short, stuff_long}
+use Rattle.shdlc.proofs.Stuffing.{stuff-append, stuff-one, stuff_long}
 use Rattle.receiver.specs.declared.Mode.{Mode}
 use Rattle.receiver.specs.declared.Mode.TheVariants.{Outside, Plain, Escaped, BadEscape, BareControl}
-use Rattle.receiver.specs.Record.{mode_of, Act, Store, Become, Discard, unescape, act_of, place_in}
+use Rattle.receiver.specs.Record.{Act, Store, Become, Discard, unescape, act_of, place_in}
 
 -- how many bytes the part of a body past 260 was sent as
 abbrev pub beyond : List ℕ → ℕ
@@ -97,16 +97,12 @@ act_sent Escaped b h = sent_escaped (eqb b 0x5E) (eqb b 0x5D) (eqb b 0x31) (eqb 
 act_sent BadEscape b h = tt
 act_sent BareControl b h = tt
 
--- the same of a mode that is known by its number
-pub came_as_lem : (m b v : ℕ) {k : ℕ} → (b ≡ 0x7E → ⊥) → m ≡ k → act_of (mode_of m) b ≡ Store v → length (stuff_byte v) ≡ came_as (mode_of k)
-came_as_lem m b v no_end is p = subst (Sent (mode_of m)) p (act_sent (mode_of m) b (ne_eqb b 0x7E no_end)) ∙ ap (λ (x : ℕ). came_as (mode_of x)) is
+-- the same of a mode that is known by an equation
+pub came_as_lem : (m : Mode) (b v : ℕ) {k : Mode} → (b ≡ 0x7E → ⊥) → m ≡ k → act_of m b ≡ Store v → length (stuff_byte v) ≡ came_as k
+came_as_lem m b v no_end is p = subst (Sent m) p (act_sent m b (ne_eqb b 0x7E no_end)) ∙ ap came_as is
 
--- the place by the length: past all places, within the store, and between
+-- the place by the length: what is stored of so many, and those past 260
 module _ (n : ℕ) (store : List ℕ) (size : length store ≡ 260) where
-  pub place_last : 65535 ≤ n → 65535 ≡ place_in n store
-  unfolding place_in
-  place_last h = rw (take_all n store (omega arith)) (omega (arith, stuff_long store))
-
   same_kept : take (min n 260) store ≡ take n store
   same_kept = go (ltb n 260) refl
     where
@@ -119,9 +115,6 @@ module _ (n : ℕ) (store : List ℕ) (size : length store ≡ 260) where
           let l : 260 ≤ n = ltb-false n 260 e in
           take_all (min n 260) store (omega arith) ∙ sym (take_all n store (omega arith))
 
-  pub place_sent : {m k : ℕ} → m ≡ min n 260 → k ≡ length (stuff (take m store)) → (k ≤ 520) × (reported_place (k + (n - m)) ≡ place_in n store)
+  pub place_kept : min (length (stuff (take (min n 260) store)) + (n - min n 260)) 65535 ≡ place_in n store
   unfolding place_in
-  place_sent {m} {k} e f =
-      let short : length (take m store) ≤ 260 = omega (arith, length-take m store) in
-      let is : k ≡ length (stuff (take n store)) = f ∙ ap (λ (x : ℕ). length (stuff (take x store))) e ∙ ap (λ (l : List ℕ). length (stuff l)) same_kept in
-      (omega (arith, stuff_short (take m store)), omega arith)
+  place_kept = let is = ap (λ (l : List ℕ). length (stuff l)) same_kept in omega arith

@@ -13,8 +13,8 @@ use Rattle.shdlc.specs.declared.Kind.{Kind}
 use Rattle.shdlc.specs.Stuffing.{stuff_byte, is_control}
 use Rattle.refusal.proofs.Rest.{rest_here, rest_end}
 use Rattle.receiver.specs.declared.Mode.{Mode}
-use Rattle.receiver.specs.declared.Mode.TheVariants.{Plain, Escaped, BareControl}
-use Rattle.receiver.specs.Record.{Record, mode_of, Act, Store, Become, Discard, limited, act_of, pushed, acted, opened, pending, next_byte}
+use Rattle.receiver.specs.declared.Mode.TheVariants.{Outside, Plain, Escaped, BareControl}
+use Rattle.receiver.specs.Record.{Record, Act, Store, Become, Discard, limited, act_of, pushed, acted, opened, pending, next_byte}
 use Rattle.receiver.specs.declared.Scanned.{Scanned}
 use Rattle.receiver.specs.Calls.{Scan, scanned_as, scan_from}
 use Rattle.receiver.proofs.Modes.{act_noise}
@@ -128,7 +128,7 @@ plain_byte false false false b h = (refl, refl)
 
 module _ (start : List ℕ) (len : ℕ) (piece store : List ℕ) (i : ℕ) where
   -- one more byte of it
-  pub run_next : i < length piece → len + i < 260 → special (get_or piece i 0) ≡ false
+  run_next : i < length piece → len + i < 260 → special (get_or piece i 0) ≡ false
       → Runs start len piece store i → Runs start len piece (set store (len + i) (get_or piece i 0)) (i + 1)
   run_next h room plain runs kind noise taken =
       let b : ℕ = get_or piece i 0 in
@@ -136,6 +136,12 @@ module _ (start : List ℕ) (len : ℕ) (piece store : List ℕ) (i : ℕ) where
       runs kind noise taken ∙ ap (scan_from (taken + i) (in_stretch kind (len + i) noise store)) (rest_here piece i h)
       ∙ turn_store (taken + i) (in_stretch kind (len + i) noise store) b (drop (i + 1) piece) (eqb-false b 0x7E p.0) b p.1 room
       ∙ rw (add_assoc taken i 1, add_assoc len i 1)
+
+  -- the same of a byte that the code has from a part of the piece
+  pub run_more : (b : ℕ) → b ≡ get_or piece i 0 → i < length piece → len + i < 260 → special b ≡ false
+      → Runs start len piece store i → Runs start len piece (set store (len + i) b) (i + 1)
+  run_more b e h room plain runs =
+      subst (λ (v : ℕ). Runs start len piece (set store (len + i) v) (i + 1)) (sym e) (run_next h room (ap special (sym e) ∙ plain) runs)
 
 -- a run in what a piece has left: its bytes are among those left, and the scan goes on after them
 module _ (piece : List ℕ) (j : ℕ) where
@@ -155,22 +161,16 @@ module _ (piece : List ℕ) (j : ℕ) where
       ∙ ap (scan_from (j + n) (in_stretch kind (len + n) noise store)) (drop-drop n j piece)
 
 -- the first n bytes of a piece are noise
-abbrev pub Skips : ℕ → List ℕ → ℕ → Type 0
+abbrev pub Skips : Mode → List ℕ → ℕ → Type 0
 Skips m piece n =
     (kind : Kind) (len noise taken : ℕ) (store : List ℕ) → noise < 4294967296
-    → scan_from taken (record { kind = kind; mode = mode_of m; len = len; noise = noise; store = store }) piece
-    ≡ scan_from (taken + n) (record { kind = kind; mode = mode_of m; len = len; noise = limited (noise + n); store = store }) (drop n piece)
+    → scan_from taken (record { kind = kind; mode = m; len = len; noise = noise; store = store }) piece
+    ≡ scan_from (taken + n) (record { kind = kind; mode = m; len = len; noise = limited (noise + n); store = store }) (drop n piece)
 
-pub skip_none : (m : ℕ) (piece : List ℕ) → Skips m piece 0
-skip_none m piece kind len noise taken store few =
-    let e : noise ≡ limited (noise + 0) = omega arith in
-    let f : taken ≡ taken + 0 = omega arith in
-    λ i. scan_from (f i) (record { kind = kind; mode = mode_of m; len = len; noise = e i; store = store }) piece
-
-pub skip_next : (m : ℕ) (piece : List ℕ) (i : ℕ) → m ≡ 0 → i < length piece → (get_or piece i 0 ≡ 0x7E → ⊥) → Skips m piece i → Skips m piece (i + 1)
+pub skip_next : (m : Mode) (piece : List ℕ) (i : ℕ) → m ≡ Outside → i < length piece → (get_or piece i 0 ≡ 0x7E → ⊥) → Skips m piece i → Skips m piece (i + 1)
 skip_next m piece i is l no_end skips kind len noise taken store few =
     let e : limited (noise + (i + 1)) ≡ limited (limited (noise + i) + 1) = omega arith in
-    let here : Record = record { kind = kind; mode = mode_of m; len = len; noise = limited (noise + i); store = store } in
+    let here : Record = record { kind = kind; mode = m; len = len; noise = limited (noise + i); store = store } in
     skips kind len noise taken store few ∙ ap (scan_from (taken + i) here) (rest_here piece i l)
     ∙ turn_discard (taken + i) here (get_or piece i 0) (drop (i + 1) piece) no_end (act_noise m (get_or piece i 0) is) e
     ∙ rw (add_assoc taken i 1)

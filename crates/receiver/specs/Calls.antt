@@ -1,19 +1,14 @@
 -- What each call gives for every record, flag, piece and lent buffer. To be believed are the words of an answer, with `said_of` and
 -- `buffer_of`, `fresh_of`, `noise_of`, and that `feed_of` gives refusal 2, with all as it was, exactly for a record that is not in range. The
 -- rest is the model of the code: demand 3 (Series.antt) ties it to the stream.
-use Rattle.std.specs.Prelude.{ℕ, ◌+◌, Bool, true, false, cond, ◌&&◌, List, [], ◌∷◌, ltb, eqb, length, take, replicate}
+use Rattle.std.specs.Prelude.{ℕ, ◌+◌, Bool, true, false, cond, ◌&&◌, List, [], ◌∷◌, ltb, eqb, length, replicate, Option, Some, None, Result as Returned, Ok, Err}
+use Rattle.refusal.specs.declared.Refusal.{Refusal}
 use Rattle.refusal.specs.Refusals.{number, Answered, served, refused, paper}
 use Rattle.refusal.specs.Room.{overlay}
 use Rattle.shdlc.specs.declared.Kind.{Kind}
 use Rattle.shdlc.specs.Stream.{Item}
-use Rattle.receiver.specs.declared.Answer.{Answer}
-use Rattle.receiver.specs.declared.Answer.TheVariants as answer
-use Rattle.receiver.specs.declared.Made.{Made}
-use Rattle.receiver.specs.declared.Made.TheVariants as made
 use Rattle.receiver.specs.declared.Fed.{Fed}
 use Rattle.receiver.specs.declared.Scanned.{Scanned}
-use Rattle.receiver.specs.declared.NoiseCount.{NoiseCount}
-use Rattle.receiver.specs.declared.NoiseCount.TheVariants as counted
 use Rattle.receiver.specs.Record.{Record, held, in_range, fresh, opened, silenced, pending, item_of, next_byte}
 
 -- what a call says: nothing yet, or an item, a frame by the length of its body
@@ -32,23 +27,14 @@ pub record Outcome : Type 0 where
   pub result : Result
 
 -- the answers of the code in these words
-abbrev pub paper_answer : Answer → Said
-paper_answer answer.Nothing = nothing
-paper_answer (answer.Frame n) = gave (served n)
-paper_answer (answer.Refused r) = gave (refused (paper r))
+abbrev pub paper_answer : Returned (Option ℕ) Refusal → Said
+paper_answer (Ok None) = nothing
+paper_answer (Ok (Some n)) = gave (served n)
+paper_answer (Err r) = gave (refused (paper r))
 
 abbrev pub paper_fed : Fed → List ℕ → List ℕ → Outcome
 paper_fed f store buffer =
     record { leaves = held f.receiver store; result = record { said = paper_answer f.answer; taken = f.taken; buffer = buffer } }
-
--- the store of the record that is made is the first 260 bytes of the one lent
-abbrev pub paper_made : Made → List ℕ → Answered Record
-paper_made (made.Fresh r) store = served (held r (take 260 store))
-paper_made (made.Refused r) store = refused (paper r)
-
-abbrev pub paper_noise : NoiseCount → Answered ℕ
-paper_noise (counted.Count n) = served n
-paper_noise (counted.Refused r) = refused (paper r)
 
 -- refusal 1 under 260 bytes; else the fresh record, and the lent store with its zeros at the start and all else as it was
 unfoldable pub fresh_of : Kind → List ℕ → Answered Record × List ℕ

@@ -1,8 +1,10 @@
 -- The receiver's record: its ranges, the fresh record of each kind, and what a byte or a silence mark does to it (docs/RECORD.md).
 -- To be believed are the record, its ranges and the fresh record, up to `fresh`. What follows is the model of the code: demand 3
 -- (Series.antt) says what comes of it for every series of calls, and every record within the ranges is left by some stream (`reached`).
-use Rattle.std.specs.Prelude.{ℕ, ◌+◌, ◌-◌, min, Bool, true, false, cond, ◌&&◌, List, [], ◌∷◌, ltb, eqb, length, take, set, replicate}
+use Rattle.std.specs.Prelude.{ℕ, ◌+◌, ◌-◌, min, Bool, true, false, cond, ◌&&◌, List, [], ◌∷◌, ltb, eqb, length, take, set, replicate, Result, Ok, Err}
 use Rattle.std.proofs.Math.Option.{Option, none, some}
+use Rattle.refusal.specs.declared.Refusal.{Refusal}
+use Rattle.refusal.specs.declared.Refusal.TheVariants.{BadRecord}
 use Rattle.refusal.specs.Refusals.{number, ◌carrying◌, refused}
 use Rattle.shdlc.specs.declared.Kind.{Kind}
 use Rattle.shdlc.specs.Stuffing.{escapes, left_of, stuff_byte, stuff, is_control, reported_place}
@@ -34,6 +36,12 @@ number_of_mode BareControl = 4
 -- and back; 4 and above are the last
 abbrev pub mode_of : ℕ → Mode
 mode_of n = cond (eqb n 0) Outside (cond (eqb n 1) Plain (cond (eqb n 2) Escaped (cond (eqb n 3) BadEscape BareControl)))
+
+-- and back in a record's byte, which may be no mode's
+abbrev pub mode_numbered : ℕ → Result Mode Refusal
+mode_numbered n =
+    cond (eqb n 0) (Ok Outside)
+    (cond (eqb n 1) (Ok Plain) (cond (eqb n 2) (Ok Escaped) (cond (eqb n 3) (Ok BadEscape) (cond (eqb n 4) (Ok BareControl) (Err BadRecord)))))
 
 -- outside a stretch no byte is held; inside one up to 260 unstuffed bytes, and past these what each more was received as, one or two, is
 -- counted; 65,535 stands for more

@@ -6,7 +6,8 @@ use mathlib.Core.Bool.{cond}
 use lib.Dec.{eqb}
 use Rattle.refusal.specs.declared.Refusal.{Refusal}
 use Rattle.refusal.specs.declared.Refusal.TheVariants.{NoRoom, BadRecord, BadEscape, BareControl, BodyTooLong, BodyTooShort, WrongLength, WrongChecksum, CutBySilence, AddressBroadcast, UnknownCommand, OutOfRange, BadFloat, ForeignReply, DeviceError, BadWordCount, WrongCrc, BadScale, BoardFull, BadTotal, BadTrailer, BadKind, WrongCount}
-use Rattle.refusal.specs.Refusals.{Numbered, number, ◌carrying◌, paper, Answered, served, refused}
+use Rattle.std.specs.Prelude.{Result, Ok, Err}
+use Rattle.refusal.specs.Refusals.{Numbered, number, ◌carrying◌, paper, Answered, refused, answered}
 
 -- the refusal of the number at the list's place; the last of the list past its end
 nth : List Refusal → ℕ → Refusal
@@ -77,3 +78,10 @@ paper-one_to_one r s e = sym (back-paper r) ∙ ap back e ∙ back-paper s
 -- the same inside an answer
 pub refused_one_to_one : {A : Type 0} (r s : Refusal) → ◌≡◌ {A = Answered A} (refused (paper r)) (refused (paper s)) → r ≡ s
 refused_one_to_one r s e = paper-one_to_one r s (let z : paper r ≡ paper s = cc in z)
+
+-- an answer of the code can be told from the document's words: nothing is lost by `answered`
+pub answered-one_to_one : {A : Type 0} (a b : Result A Refusal) → answered a ≡ answered b → a ≡ b
+answered-one_to_one (Ok m) (Ok n) e = cc
+answered-one_to_one (Ok m) (Err s) e = cc
+answered-one_to_one (Err r) (Ok n) e = cc
+answered-one_to_one (Err r) (Err s) e = ap Err (refused_one_to_one r s e)

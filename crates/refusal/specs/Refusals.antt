@@ -1,6 +1,6 @@
 -- The refusals of document 01 in its own words: a number of its table and, with 3, 4, 15 and 17, the value that the number carries.
 -- Every answer of every crate is stated through `paper`. The law `paper-one_to_one` of proofs/ says that nothing is lost by it.
-use Rattle.std.specs.Prelude.{ℕ, Bool, cond, ◌||◌, eqb, List, [], ◌∷◌}
+use Rattle.std.specs.Prelude.{ℕ, Bool, cond, ◌||◌, eqb, List, [], ◌∷◌, Result, Ok, Err}
 use Rattle.refusal.specs.declared.Refusal.{Refusal}
 use Rattle.refusal.specs.declared.Refusal.TheVariants.{NoRoom, BadRecord, BadEscape, BareControl, BodyTooLong, BodyTooShort, WrongLength, WrongChecksum, CutBySilence, AddressBroadcast, UnknownCommand, OutOfRange, BadFloat, ForeignReply, DeviceError, BadWordCount, WrongCrc, BadScale, BoardFull, BadTotal, BadTrailer, BadKind, WrongCount}
 
@@ -59,6 +59,14 @@ place_of r = place_by (paper r)
 pub data Answered (A : Type 0) : Type 0 where
   served : A → Answered A
   refused : Numbered → Answered A
+
+-- the answer of a function of the code in 01's words, with what it serves put in the words of its document
+abbrev pub answered_as : {A B : Type 0} → (A → B) → Result A Refusal → Answered B
+answered_as says (Ok a) = served (says a)
+answered_as says (Err r) = refused (paper r)
+
+abbrev pub answered : {A : Type 0} → Result A Refusal → Answered A
+answered result = answered_as (λ a. a) result
 
 -- 01, Refusal numbers, "Order": the first number whose condition holds, else served
 abbrev pub in_order : {A : Type 0} → List (Bool × Numbered) → A → Answered A

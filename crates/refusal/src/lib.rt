@@ -1,11 +1,14 @@
 // The refusals: one named case for each number of document 01's table, and for each that document 02 adds.
 #![tactic(auto)]
 
-ghost use Rattle.std.specs.Prelude.{◌≡◌};
+ghost use Rattle.std.specs.Prelude.{◌≡◌, ◌++◌, codes, decimal, Some};
 ghost use Rattle.refusal.specs.Refusals.{number_of, place_of};
 
+use std::error::Error;
+use std::fmt;
+
 // Why an entry point does not serve. The comment of a case is its number and its row of the table.
-#[derive(Clone, Copy)]
+#[derive(Clone, Copy, Debug, PartialEq, Eq)]
 pub enum Refusal {
     // 1: lent room is less than this answer needs; a board's table not of 32 places; a log's length past the lent buffer.
     NoRoom,
@@ -56,64 +59,56 @@ pub enum Refusal {
     WrongCount,
 }
 
-// The number of a refusal in document 01's table.
-pub fn number(r: Refusal) -> u8
-    ensures { result ≡ number_of r }
-{
-    match r {
-        Refusal::NoRoom => 1,
-        Refusal::BadRecord => 2,
-        Refusal::BadEscape(_) => 3,
-        Refusal::BareControl(_) => 4,
-        Refusal::BodyTooLong => 5,
-        Refusal::BodyTooShort => 6,
-        Refusal::WrongLength => 7,
-        Refusal::WrongChecksum => 8,
-        Refusal::CutBySilence => 9,
-        Refusal::AddressBroadcast => 10,
-        Refusal::UnknownCommand => 11,
-        Refusal::OutOfRange => 12,
-        Refusal::BadFloat => 13,
-        Refusal::ForeignReply => 14,
-        Refusal::DeviceError(_) => 15,
-        Refusal::BadWordCount => 16,
-        Refusal::WrongCrc(_) => 17,
-        Refusal::BadScale => 18,
-        Refusal::BoardFull => 19,
-        Refusal::BadTotal => 20,
-        Refusal::BadTrailer => 21,
-        Refusal::BadKind => 22,
-        Refusal::WrongCount => 23,
+impl Refusal {
+    // The number of a refusal in document 01's table.
+    pub fn number(self) -> u8
+        ensures { result ≡ number_of self }
+    {
+        match self {
+            Refusal::NoRoom => 1,
+            Refusal::BadRecord => 2,
+            Refusal::BadEscape(_) => 3,
+            Refusal::BareControl(_) => 4,
+            Refusal::BodyTooLong => 5,
+            Refusal::BodyTooShort => 6,
+            Refusal::WrongLength => 7,
+            Refusal::WrongChecksum => 8,
+            Refusal::CutBySilence => 9,
+            Refusal::AddressBroadcast => 10,
+            Refusal::UnknownCommand => 11,
+            Refusal::OutOfRange => 12,
+            Refusal::BadFloat => 13,
+            Refusal::ForeignReply => 14,
+            Refusal::DeviceError(_) => 15,
+            Refusal::BadWordCount => 16,
+            Refusal::WrongCrc(_) => 17,
+            Refusal::BadScale => 18,
+            Refusal::BoardFull => 19,
+            Refusal::BadTotal => 20,
+            Refusal::BadTrailer => 21,
+            Refusal::BadKind => 22,
+            Refusal::WrongCount => 23,
+        }
+    }
+
+    // The place in its stretch that a refusal carries, 0 where it carries none.
+    pub fn place(self) -> u16
+        ensures { result ≡ place_of self }
+    {
+        match self {
+            Refusal::BadEscape(place) | Refusal::BareControl(place) => place,
+            _ => 0,
+        }
     }
 }
 
-// The place in its stretch that a refusal carries, 0 where it carries none.
-pub fn place(r: Refusal) -> u16
-    ensures { result ≡ place_of r }
-{
-    match r {
-        Refusal::NoRoom => 0,
-        Refusal::BadRecord => 0,
-        Refusal::BadEscape(place) => place,
-        Refusal::BareControl(place) => place,
-        Refusal::BodyTooLong => 0,
-        Refusal::BodyTooShort => 0,
-        Refusal::WrongLength => 0,
-        Refusal::WrongChecksum => 0,
-        Refusal::CutBySilence => 0,
-        Refusal::AddressBroadcast => 0,
-        Refusal::UnknownCommand => 0,
-        Refusal::OutOfRange => 0,
-        Refusal::BadFloat => 0,
-        Refusal::ForeignReply => 0,
-        Refusal::DeviceError(_) => 0,
-        Refusal::BadWordCount => 0,
-        Refusal::WrongCrc(_) => 0,
-        Refusal::BadScale => 0,
-        Refusal::BoardFull => 0,
-        Refusal::BadTotal => 0,
-        Refusal::BadTrailer => 0,
-        Refusal::BadKind => 0,
-        Refusal::WrongCount => 0,
+impl fmt::Display for Refusal {
+    ghost output = { λ r. Some (codes "refused " ++ decimal (number_of r)) };
+
+    fn fmt<W: fmt::Write>(&self, f: &mut fmt::Formatter<W>) -> fmt::Result {
+        let number = self.number();
+        write!(f, "refused {number}")
     }
 }
+
+impl Error for Refusal {}

@@ -1,53 +1,54 @@
 -- The orders that the run carries out are those that the log means, on a table that (i) does not refuse. Assumes nothing.
 use Prim.Native.Nat.{ℕ}
-use native.Mathlib.Omega.{arith}
-use mathlib.Core.Path.{◌≡◌, refl, sym, ap, subst, ◌∙◌}
+use mathlib.Core.Path.{◌≡◌, refl, sym, ap, ◌∙◌}
 use mathlib.Core.Bool.{Bool, true, false, cond}
-use mathlib.Core.List.{List, [], ◌∷◌, ◌++◌, map}
+use mathlib.Core.List.{List, [], ◌∷◌}
 use mathlib.Core.Option.{Option, none, some}
-use lib.Dec.{eqb}
-use lib.ListN.{take, drop}
-use Rattle.refusal.specs.Refusals.{Numbered, number, Answered, served, refused}
+use lib.ListN.{length}
+use borrow.Author.Tests.{eq-eqb}
+use Rattle.std.specs.Prelude.{Result, Ok, Err}
+use Rattle.refusal.specs.declared.Refusal.{Refusal}
+use Rattle.refusal.specs.Refusals.{Numbered, number, Answered, served, refused, answered}
 use Rattle.shdlc.specs.declared.Kind.TheVariants.{Request, Reply}
 use Rattle.sfc6.specs.declared.Request.{Request as Asked}
 use Rattle.sfc6.specs.Reading.{and_then, read_request}
 use Rattle.board.specs.declared.entries.Entry.{Entry}
-use Rattle.board.specs.declared.listing.Listed.{Listed}
 use Rattle.board.specs.declared.orders.Order.{Order}
 use Rattle.board.specs.declared.orders.Order.TheVariants.{Poll}
-use Rattle.board.specs.Entries.{empty}
+use Rattle.board.specs.Entries.{valid}
 use Rattle.board.specs.Orders.{Outcome, order_in_range, done, change}
-use Rattle.board.specs.Listing.{counted}
-use Rattle.board.proofs.Lists.{Promised}
+use Rattle.board.specs.Listing.{list_answer}
 use Rattle.board.proofs.Handover.{Sound, sound-change, sound-kept}
-use Rattle.replay.specs.Replay.{Told, yielded, silent, against, answering, orders_from, or_refused, board_from}
-use Rattle.replay.specs.Private.{after, Kept, known, carried, put, answer, noted, entry_in, board_in, Good}
-
-abbrev kept : Option (ℕ × Asked) → Answered (List Entry) → Kept
-kept l board = record { latest = l; board = board }
-
--- ---- a refusal instead of a list
-pub given_refused : (n : Numbered) (entries : List Entry) (room : ℕ) (r : Listed) (count : ℕ) (rows : List Entry)
-    → (r ≡ counted (refused n)) × (count ≡ 0) × (rows ≡ empty) → Promised (refused n) entries room r count rows
-given_refused n entries room r count rows (a, b, c) =
-    (a, b ∙ sym (ap (λ (x : Listed). x.count) a), c ∙ ap (λ (m : ℕ). take m entries ++ drop m empty) (sym b), omega (arith, b), omega (arith, b))
+use Rattle.replay.specs.Replay.{Told, yielded, silent, against, answering, orders_from, or_refused, board_from, room_for}
+use Rattle.replay.specs.Private.{after, known, carried, put, answer, noted, board_in, Good, list_of}
 
 -- ---- an order to the board before it is refused one, and after
-module _ (b : List ℕ) (ended : ℕ) (o : Order) where
-  pub put-done : (x : Answered (List Entry)) → eqb ended 0 ≡ true → x ≡ carried (map entry_in b) o → x ≡ put (board_in ended b) o
+module _ (t : List Entry) (o : Order) where
+  pub put-done : {ended : Result (Unit {0}) Refusal} (result : Result (Unit {0}) Refusal) {next : List Entry} {u : Unit {0}} → ended ≡ Ok u
+      → (answered result, next) ≡ cond (order_in_range o) (done o t) (refused (number 12), t) → board_in result next ≡ put (board_in ended t) o
   unfolding put
-  put-done x h e = e ∙ sym (ap (λ (t : Bool). and_then (cond t (served (map entry_in b)) (refused (number ended))) (λ s. carried s o)) h)
+  put-done {ended} result {next} h e =
+      by_result result
+      ∙ ap or_refused e
+      ∙ go (order_in_range o)
+      ∙ ap (λ (x : Result (Unit {0}) Refusal). and_then (board_in x t) (λ s. carried s o)) (sym h)
+    where
+      by_result : (r : Result (Unit {0}) Refusal) → board_in r next ≡ or_refused (answered r, next)
+      by_result (Ok u) = refl
+      by_result (Err why) = refl
 
-  pub put_late : eqb ended 0 ≡ false → board_in ended b ≡ put (board_in ended b) o
+      go : (b : Bool) → or_refused (cond b (done o t) (refused (number 12), t)) ≡ cond b (or_refused (done o t)) (refused (number 12))
+      go true = refl
+      go false = refl
+
+  pub put_late : {ended : Result (Unit {0}) Refusal} {why : Refusal} → ended ≡ Err why → board_in ended t ≡ put (board_in ended t) o
   unfolding put
-  put_late h =
-      subst (λ (t : Bool). cond t (served (map entry_in b)) (refused (number ended)) ≡ and_then (cond t (served (map entry_in b)) (refused (number ended))) (λ s. carried s o))
-      (sym h) refl
+  put_late h = ap (λ (x : Result (Unit {0}) Refusal). board_in x t) h ∙ ap (λ (x : Result (Unit {0}) Refusal). and_then (board_in x t) (λ s. carried s o)) (sym h)
 
--- a request frame
-pub kept-request : (l : Option (ℕ × Asked)) (ended was : ℕ) (b body : List ℕ) → l ≡ known (read_request body) → ended ≡ was
-    → kept l (board_in ended b) ≡ kept (known (read_request body)) (board_in was b)
-kept-request l ended was b body e f = λ i. kept (e i) (board_in (f i) b)
+-- ---- the list of a board that (i) does not refuse
+pub listed_good : (t : List Entry) (room : ℕ) → (length t ≡ 32) × (valid t ≡ true) → list_answer t room ≡ room_for (list_of (served t)) room
+unfolding list_answer
+listed_good t room (l, v) = rw (eq-eqb (length t) 32 l, v)
 
 -- ---- the checks that are left out
 carried-sound : (t : List Entry) (o : Order) → Sound t → carried t o ≡ or_refused (change t o)

@@ -1,28 +1,26 @@
 -- How a side goes on, call by call. Assumes nothing.
-use Prim.Native.Nat.{ℕ, zero, suc, ◌+◌, ◌-◌, ◌≤◌}
+use Prim.Native.Nat.{ℕ, zero, suc, ◌≤◌}
 use native.Mathlib.Omega.{arith}
 use mathlib.Core.Path.{◌≡◌, refl, sym, ap, subst, ◌∙◌}
 use mathlib.Core.Bool.{Bool, true, false, ◌&&◌}
 use mathlib.Core.List.{List, [], ◌∷◌, ◌++◌, map, append_assoc, append-nil}
 use lib.Dec.{ltb}
-use lib.ListN.{length, take, drop, length-drop, drop_of_length-le, take-append-drop}
-use lib.Seq.{take_all, drop-drop}
+use lib.ListN.{length, take, drop, take-append-drop}
+use Rattle.std.specs.Prelude.{Option, Some, None, Result, Ok, Err}
+use Rattle.refusal.specs.declared.Refusal.{Refusal}
 use Rattle.refusal.specs.Refusals.{number, served, refused}
 use Rattle.refusal.proofs.Room.{overlay-holds}
 use Rattle.shdlc.specs.declared.Kind.{Kind}
 use Rattle.shdlc.specs.Stream.{Event, byte, mark, Item}
 use Rattle.shdlc.proofs.Stream.{map-append}
 use Rattle.receiver.specs.declared.Fed.{Fed}
-use Rattle.receiver.specs.declared.Answer.{Answer}
-use Rattle.receiver.specs.declared.Answer.TheVariants as answers
 use Rattle.receiver.specs.Record.{Record, in_range, pending, item_of, record_of}
 use Rattle.receiver.specs.Calls.{Said, nothing, gave, Outcome, paper_answer, paper_fed, said_of, buffer_of, scan_from, after_mark, feed_of}
 use Rattle.receiver.specs.Series.{gained}
 use Rattle.receiver.proofs.Callers.{taking, Hears, hears, gained-append, gained_nothing}
 use Rattle.replay.specs.Replay.{yielded}
 use Rattle.replay.specs.Private.{after, Kept, noted, noted_answer, frame_length, GoesOn, Marks}
-use Rattle.replay.proofs.Serial.{by_test}
-use Rattle.replay.proofs.Noting.{after-append, map_yielded, nothing_noted, refused_noted}
+use Rattle.replay.proofs.Noting.{by_test, after-append, map_yielded, nothing_noted, refused_noted}
 
 -- by nothing, by one part and another, by a call
 module _ (lease : ℕ) (side : Kind) where
@@ -71,26 +69,23 @@ module _ (lease : ℕ) (side : Kind) where
       λ last end h.
       rest last end (subst (λ (es : List Event). GoesOn lease side r k es last end) (parts n left) (goes_then r next last k then end (map byte (take n left)) (map byte (drop n left)) g h))
 
--- a slice from a place on
-rest_of : (a : ℕ) (l : List ℕ) → take (length l - a) (drop a l) ≡ drop a l
-rest_of a l = take_all (length l - a) (drop a l) (omega (arith, length-drop a l))
+empty_piece : (l : List ℕ) → length l ≡ 0 → l ≡ []
+empty_piece [] h = refl
+empty_piece (x ∷ l) h = absurd (omega (arith, h))
 
--- a call of the loop: the piece is lent from a place on
+-- a call of the loop: what is left of the piece is lent
 module _ (lease : ℕ) (side : Kind) (r₀ : Record) (k₀ : Kept) (whole : List ℕ) where
-  pub rest_call : (r : Record) (k then : Kept) (buffer : List ℕ) (o : Outcome) (a n : ℕ) → n ≡ o.result.taken → 260 ≤ length buffer
-      → o ≡ feed_of r false (take (length whole - a) (drop a whole)) buffer
+  pub rest_call : (r : Record) (k then : Kept) (buffer left : List ℕ) (o : Outcome) → 260 ≤ length buffer → o ≡ feed_of r false left buffer
       → then ≡ noted_answer lease side k o.result.said o.result.buffer
-      → Rest lease side r₀ k₀ whole r k (drop a whole) → Rest lease side r₀ k₀ whole o.leaves then (drop (a + n) whole)
-  rest_call r k then buffer o a n t l e f rest =
-      subst (Rest lease side r₀ k₀ whole o.leaves then) (drop-drop n a whole)
-      (rest_more lease side r₀ k₀ whole r o.leaves k then (drop a whole) n
-      (subst (λ (m : ℕ). GoesOn lease side r k (map byte (take m (drop a whole))) o.leaves then) (sym t)
-      (goes_fed lease side r k then false (drop a whole) buffer o l (e ∙ ap (λ (p : List ℕ). feed_of r false p buffer) (rest_of a whole)) f)) rest)
+      → Rest lease side r₀ k₀ whole r k left → Rest lease side r₀ k₀ whole o.leaves then (drop o.result.taken left)
+  rest_call r k then buffer left o l e f rest =
+      rest_more lease side r₀ k₀ whole r o.leaves k then left o.result.taken (goes_fed lease side r k then false left buffer o l e f) rest
 
-  pub rest_end : (r : Record) (k : Kept) (a : ℕ) → length whole ≤ a → Rest lease side r₀ k₀ whole r k (drop a whole)
-      → GoesOn lease side r₀ k₀ (map byte whole) r k
-  rest_end r k a h rest =
-      rest r k (subst (λ (l : List ℕ). GoesOn lease side r k (map byte l) r k) (sym (drop_of_length-le whole h)) (goes_nothing lease side r k))
+  pub rest_start : Rest lease side r₀ k₀ whole r₀ k₀ whole
+  rest_start = λ last end h. h
+
+  pub rest_end : (r : Record) (k : Kept) (left : List ℕ) → length left ≡ 0 → Rest lease side r₀ k₀ whole r k left → GoesOn lease side r₀ k₀ (map byte whole) r k
+  rest_end r k left h rest = rest r k (subst (λ (l : List ℕ). GoesOn lease side r k (map byte l) r k) (sym (empty_piece left h)) (goes_nothing lease side r k))
 
 -- ---- a frame that is answered stands in the buffer
 said_length : Said → ℕ
@@ -98,11 +93,11 @@ said_length nothing = 0
 said_length (gave (served n)) = n
 said_length (gave (refused n)) = 0
 
-said-length : (a : Answer) → frame_length a ≡ said_length (paper_answer a)
+said-length : (a : Result (Option ℕ) Refusal) → frame_length a ≡ said_length (paper_answer a)
 unfolding said_length
-said-length answers.Nothing = refl
-said-length (answers.Frame n) = refl
-said-length (answers.Refused r) = refl
+said-length (Ok None) = refl
+said-length (Ok (Some n)) = refl
+said-length (Err r) = refl
 
 item_holds : (i : Item) (buffer : List ℕ) → said_length (said_of i) ≤ length (buffer_of i buffer)
 unfolding said_length
@@ -148,10 +143,6 @@ module _ (lease : ℕ) (side : Kind) (k : Kept) where
       none : (n : ℕ) → take {A = ℕ} n [] ≡ []
       none zero = refl
       none (suc n) = refl
-
-empty_piece : (l : List ℕ) → length l ≡ 0 → l ≡ []
-empty_piece [] h = refl
-empty_piece (x ∷ l) h = absurd (omega (arith, h))
 
 pub marked : (r : Record) (piece buffer : List ℕ) (o : Outcome) → length piece ≡ 0 → 260 ≤ length buffer → o ≡ feed_of r true piece buffer
     → Marks r o.leaves

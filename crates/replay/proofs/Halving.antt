@@ -8,14 +8,15 @@ use lib.Dec.{eqb}
 use lib.ListN.{length, get_or, set, take, drop, length-drop}
 use lib.Seq.{get_or-set_same, get_or-set_other, take-add, drop-drop}
 use borrow.Author.Tests.{eqb-true, eqb-false}
+use Rattle.std.proofs.lemmas.List.{length-reverse, get_or-reverse, get_or_default}
 use Rattle.payload.specs.Field.{Bytes}
-use Rattle.receiver.specs.Record.{Record}
 use Rattle.wire_log.specs.Log.{LogRecord, recorded, kinds}
 use Rattle.wire_log.specs.Listing.{rowed}
 use Rattle.wire_log.specs.Oldest.{records_to, newest_to, LeavesOut}
 use Rattle.wire_log.proofs.Turns.{Turn}
 use Rattle.wire_log.proofs.Halves.{newest_turn}
-use Rattle.replay.specs.Private.{Kept, RunsOn, newest_of, Noted}
+use Rattle.replay.specs.declared.run.Run.{Run}
+use Rattle.replay.specs.Private.{kept_of, RunsOn, Runs, newest_of, Noted}
 use Rattle.replay.proofs.RunningOn.{runs_none, runs_then}
 
 lt_of_ne : (j n : ℕ) → j < n + 1 → (j ≡ n → ⊥) → j < n
@@ -50,52 +51,70 @@ module _ (file : List ℕ) (place n newer middle : ℕ) (few : newer ≤ n) (ins
 abbrev pub older_of : List ℕ → ℕ → ℕ → ℕ → List LogRecord
 older_of file place n k = reverse (take (n - k) (drop k (records_to kinds file place)))
 
-module _ (lease : ℕ) (file : List ℕ) (place : ℕ) (q p : Record) (k : Kept) where
-  abbrev Runs : List LogRecord → Record → Record → Kept → Type 0
-  Runs more next_q next_p then = RunsOn lease q p k more next_q next_p then
-
+module _ (file : List ℕ) (place : ℕ) where
   -- one: the row that is found is its
-  pub runs_1 : (kind start size : ℕ) (body : List ℕ) (next_q next_p : Record) (then : Kept) → Bytes file → place ≤ length file
-      → 1 ≤ length (records_to kinds file place) → rowed kind start size ≡ newest_to kinds file place → body ≡ take size (drop start file)
-      → Runs (recorded kind body ∷ []) next_q next_p then → Runs (newest_of file place 1) next_q next_p then
+  one_is : (kind start size : ℕ) (body : List ℕ) → Bytes file → place ≤ length file → 1 ≤ length (records_to kinds file place)
+      → rowed kind start size ≡ newest_to kinds file place → body ≡ take size (drop start file) → recorded kind body ∷ [] ≡ newest_of file place 1
   unfolding newest_of
-  runs_1 kind start size body next_q next_p then bytes h some e b runs =
+  one_is kind start size body bytes h some e b =
       let t : Turn kinds file place kind start size = newest_turn kinds file place bytes h some e in
-      subst (λ (rs : List LogRecord). Runs rs next_q next_p then)
-      (ap (λ (x : List ℕ). recorded kind x ∷ []) b ∙ sym (ap (λ (l : List LogRecord). reverse (take 1 l)) t.newest)) runs
-
-  -- the older half, then the newer
-  pub runs_halves : (n newer middle : ℕ) → newer ≤ n → place ≤ length file → LeavesOut kinds file place newer middle
-      → (q' p' next_q next_p : Record) (half then : Kept) → Runs (newest_of file middle (n - newer)) q' p' half
-      → RunsOn lease q' p' half (newest_of file place newer) next_q next_p then → Runs (newest_of file place n) next_q next_p then
-  runs_halves n newer middle few inside out q' p' next_q next_p half then g h =
-      subst (λ (rs : List LogRecord). Runs rs next_q next_p then) (halves file place n newer middle few inside out)
-      (runs_then lease q q' next_q p p' next_p k half then (newest_of file middle (n - newer)) (newest_of file place newer) g h)
+      ap (λ (x : List ℕ). recorded kind x ∷ []) b ∙ sym (ap (λ (l : List LogRecord). reverse (take 1 l)) t.newest)
 
   -- a block, of which the newest k are left: none yet, one more, all
-  pub block_none : (n : ℕ) → Runs (older_of file place n n) q p k
-  block_none n =
+  none_is : (n : ℕ) → [] ≡ older_of file place n n
+  none_is n =
       let e : n - n ≡ 0 = omega arith in
-      subst (λ (m : ℕ). Runs (reverse (take m (drop n (records_to kinds file place)))) q p k) (sym e) (runs_none lease q p k)
+      sym (ap (λ (m : ℕ). reverse (take m (drop n (records_to kinds file place)))) e)
 
-  pub block_one : (n j at' : ℕ) → 0 < j → j ≤ n → place ≤ length file → LeavesOut kinds file place (j - 1) at' → (q' p' next_q next_p : Record) (half then : Kept)
-      → Runs (older_of file place n j) q' p' half → RunsOn lease q' p' half (newest_of file at' 1) next_q next_p then → Runs (older_of file place n (j - 1)) next_q next_p then
+  more_is : (n j at' : ℕ) → 0 < j → j ≤ n → place ≤ length file → LeavesOut kinds file place (j - 1) at' → older_of file place n j ++ newest_of file at' 1 ≡ older_of file place n (j - 1)
   unfolding newest_of
-  block_one n j at' some few inside out q' p' next_q next_p half then g h =
+  more_is n j at' some few inside out =
       let xs = records_to kinds file place in
       let ys = drop (j - 1) xs in
       let m : n - j ≡ n - (j - 1) - 1 = omega arith in
       let d : drop j xs ≡ drop 1 ys = (let e : j ≡ j - 1 + 1 = omega arith in ap (λ (i : ℕ). drop i xs) e) ∙ sym (drop-drop 1 (j - 1) xs) in
-      subst (λ (rs : List LogRecord). Runs rs next_q next_p then)
-      ((λ i. reverse (take (m i) (d i)) ++ reverse (take 1 (out.1 inside i))) ∙ parted ys (n - (j - 1)) 1 (omega arith))
-      (runs_then lease q q' next_q p p' next_p k half then (older_of file place n j) (reverse (take 1 (records_to kinds file at'))) g h)
+      (λ i. reverse (take (m i) (d i)) ++ reverse (take 1 (out.1 inside i))) ∙ parted ys (n - (j - 1)) 1 (omega arith)
 
-  pub block_all : (n j : ℕ) (next_q next_p : Record) (then : Kept) → j ≤ 0 → Runs (older_of file place n j) next_q next_p then → Runs (newest_of file place n) next_q next_p then
+  all_is : (n j : ℕ) → j ≤ 0 → older_of file place n j ≡ newest_of file place n
   unfolding newest_of
-  block_all n j next_q next_p then l g =
+  all_is n j l =
       let e : j ≡ 0 = omega arith in
       let m : n - 0 ≡ n = omega arith in
-      subst (λ (rs : List LogRecord). Runs rs next_q next_p then) (ap (older_of file place n) e ∙ ap (λ (i : ℕ). reverse (take i (records_to kinds file place))) m) g
+      ap (older_of file place n) e ∙ ap (λ (i : ℕ). reverse (take i (records_to kinds file place))) m
+
+-- ---- so of the code's run
+-- by one part and another
+run_then : (s m t : Run) (xs ys : List LogRecord) → Runs s xs m → Runs m ys t → Runs s (xs ++ ys) t
+run_then s m t xs ys g h = (
+  runs_then s.desk.lease _ _ _ _ _ _ _ _ _ xs ys g.0
+      (subst (λ (n : ℕ). RunsOn n m.requests m.replies (kept_of m.desk) ys t.requests t.replies (kept_of t.desk)) g.1 h.0),
+  h.1 ∙ g.1,
+)
+
+module _ (file : List ℕ) (place : ℕ) (s t : Run) where
+  pub runs_1 : (kind start size : ℕ) (body : List ℕ) → Bytes file → place ≤ length file → 1 ≤ length (records_to kinds file place)
+      → rowed kind start size ≡ newest_to kinds file place → body ≡ take size (drop start file)
+      → Runs s (recorded kind body ∷ []) t → Runs s (newest_of file place 1) t
+  runs_1 kind start size body bytes h some e b runs =
+      subst (λ (rs : List LogRecord). Runs s rs t) (one_is file place kind start size body bytes h some e b) runs
+
+  -- the older half, then the newer
+  pub runs_halves : (n newer middle : ℕ) (m : Run) → newer ≤ n → place ≤ length file → LeavesOut kinds file place newer middle
+      → Runs s (newest_of file middle (n - newer)) m → Runs m (newest_of file place newer) t → Runs s (newest_of file place n) t
+  runs_halves n newer middle m few inside out g h =
+      subst (λ (rs : List LogRecord). Runs s rs t) (halves file place n newer middle few inside out) (run_then s m t (newest_of file middle (n - newer)) (newest_of file place newer) g h)
+
+  pub block_none : (n k : ℕ) → k ≡ n → Runs s (older_of file place n k) s
+  block_none n k e =
+      subst (λ (rs : List LogRecord). Runs s rs s) (none_is file place n ∙ ap (older_of file place n) (sym e)) (runs_none s.desk.lease s.requests s.replies (kept_of s.desk), refl)
+
+  pub block_one : (n j at' : ℕ) (m : Run) → 0 < j → j ≤ n → place ≤ length file → LeavesOut kinds file place (j - 1) at'
+      → Runs s (older_of file place n j) m → Runs m (newest_of file at' 1) t → Runs s (older_of file place n (j - 1)) t
+  block_one n j at' m some few inside out g h =
+      subst (λ (rs : List LogRecord). Runs s rs t) (more_is file place n j at' some few inside out) (run_then s m t (older_of file place n j) (newest_of file at' 1) g h)
+
+  pub block_all : (n j : ℕ) → j ≤ 0 → Runs s (older_of file place n j) t → Runs s (newest_of file place n) t
+  block_all n j l g = subst (λ (rs : List LogRecord). Runs s rs t) (all_is file place n j l) g
 
 -- ---- places that are noted
 pub leaves_none : (file : List ℕ) (place : ℕ) → LeavesOut kinds file place 0 place
@@ -127,3 +146,15 @@ noted_more file place n at' places l out noted = λ j h. go j h (eqb j n) refl
 pub noted-at : (file : List ℕ) (place n j : ℕ) (places : List ℕ) → Noted file place n places → j < n → LeavesOut kinds file place j (get_or places j 0)
 unfolding Noted
 noted-at file place n j places noted h = noted j h
+
+-- gone through backwards: after k of n places, the next one, n - k - 1 records before the newest
+pub noted_back : (file : List ℕ) (place n : ℕ) (places : List ℕ) (k : ℕ) {at' : ℕ} → Noted file place (length places) places → length places ≡ n
+    → k < length (reverse places) → at' ≡ get_or (reverse places) k at' → (k < n) × LeavesOut kinds file place (n - k - 1) at'
+noted_back file place n places k {at'} noted many l e =
+    let r : k < length places = omega (arith, l, length-reverse places) in
+    let h : length places - 1 - k ≡ n - k - 1 = omega (arith, many) in
+    let d : n - k - 1 < length places = omega (arith, many, r) in (
+      omega (arith, r, many),
+      subst (LeavesOut kinds file place (n - k - 1)) (sym (e ∙ get_or-reverse places k at' r ∙ ap (λ (i : ℕ). get_or places i at') h ∙ get_or_default places (n - k - 1) at' 0 d))
+          (noted-at file place (length places) (n - k - 1) places noted d),
+    )

@@ -4,7 +4,6 @@ pub mod Noting
 pub mod GoingOn
 pub mod RunningOn
 pub mod Halving
-pub mod Numbers
 pub mod Carrying
 pub mod Whole
 pub mod Borders

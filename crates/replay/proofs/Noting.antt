@@ -1,21 +1,22 @@
 -- What the run keeps, and what it notes of a receiver's answer: one law for each return. Assumes nothing.
 use Prim.Native.Nat.{ℕ}
-use mathlib.Core.Path.{◌≡◌, refl, sym, ap, ◌∙◌}
+use mathlib.Core.Path.{◌≡◌, refl, ap}
 use mathlib.Core.Bool.{Bool, true, false, cond}
 use mathlib.Core.List.{List, [], ◌∷◌, ◌++◌, map}
 use lib.ListN.{take}
-use Rattle.refusal.specs.declared.Refusal.{Refusal}
-use Rattle.refusal.specs.Refusals.{Numbered, served, refused, paper}
+use Rattle.refusal.specs.Refusals.{Numbered, served, refused}
 use Rattle.shdlc.specs.declared.Kind.{Kind}
 use Rattle.shdlc.specs.declared.Kind.TheVariants.{Request, Reply}
 use Rattle.shdlc.specs.Stream.{Item}
-use Rattle.receiver.specs.declared.Answer.{Answer}
-use Rattle.receiver.specs.declared.Answer.TheVariants as answers
-use Rattle.receiver.specs.Calls.{nothing, gave, paper_answer}
-use Rattle.receiver.specs.Series.{refuses_call, reported}
+use Rattle.receiver.specs.Calls.{nothing, gave}
+use Rattle.receiver.specs.Series.{refuses_call}
 use Rattle.sfc6.specs.Reading.{read_request}
 use Rattle.replay.specs.Replay.{Told, yielded}
 use Rattle.replay.specs.Private.{after, Kept, known, put, answer, noted, noted_answer}
+
+pub by_test : {A : Type 0} (P : A → Type 0) (t : Bool) {a b : A} → P a → P b → P (cond t a b)
+by_test P true p q = p
+by_test P false p q = q
 
 pub after-append : {S : Type 0} (act : S → Told → S) (s : S) (ts us : List Told) → after act s (ts ++ us) ≡ after act (after act s ts) us
 unfolding after
@@ -42,26 +43,12 @@ module _ (lease : ℕ) (k : Kept) (frame : List ℕ) where
       go Reply true = refl
       go Reply false = refl
 
-  module _ (a : Answer) where
-    pub answer_nothing : (side : Kind) → a ≡ answers.Nothing → k ≡ noted_answer lease side k (paper_answer a) frame
-    answer_nothing side e = nothing_noted side ∙ sym (ap (λ (x : Answer). noted_answer lease side k (paper_answer x) frame) e)
+  pub frame-request : (n : ℕ) (x : Kept) → x ≡ record { latest = known (read_request (take n frame)); board = k.board } → x ≡ noted_answer lease Request k (gave (served n)) frame
+  unfolding noted_answer after noted
+  frame-request n x e = e
 
-    pub answer_refused : (side : Kind) (why : Refusal) → a ≡ answers.Refused why → k ≡ noted_answer lease side k (paper_answer a) frame
-    answer_refused side why e = refused_noted side (paper why) ∙ sym (ap (λ (x : Answer). noted_answer lease side k (paper_answer x) frame) e)
+  pub frame-reply : (n : ℕ) (x : Kept) → x ≡ record { latest = k.latest; board = put k.board (answer k.latest (take n frame) lease) } → x ≡ noted_answer lease Reply k (gave (served n)) frame
+  unfolding noted_answer after noted
+  frame-reply n x e = e
 
-    answer-frame : (side s : Kind) (n : ℕ) (x : Kept) → a ≡ answers.Frame n → side ≡ s → x ≡ noted lease k (yielded s (served (take n frame)))
-        → x ≡ noted_answer lease side k (paper_answer a) frame
-    unfolding noted_answer after
-    answer-frame side s n x e h f =
-        f ∙ ap (λ (y : Kind). noted lease k (yielded y (served (take n frame)))) (sym h)
-        ∙ sym (ap (λ (y : Answer). after (noted lease) k (map (yielded side) (reported (paper_answer y) frame))) e)
-
-    pub answer-request : (side : Kind) (n : ℕ) (x : Kept) → a ≡ answers.Frame n → side ≡ Request
-        → x ≡ record { latest = known (read_request (take n frame)); board = k.board } → x ≡ noted_answer lease side k (paper_answer a) frame
-    unfolding noted
-    answer-request side n x e h f = answer-frame side Request n x e h f
-
-    pub answer-reply : (side : Kind) (n : ℕ) (x : Kept) → a ≡ answers.Frame n → side ≡ Reply
-        → x ≡ record { latest = k.latest; board = put k.board (answer k.latest (take n frame) lease) } → x ≡ noted_answer lease side k (paper_answer a) frame
-    unfolding noted
-    answer-reply side n x e h f = answer-frame side Reply n x e h f
+pub ruleset answering = (nothing_noted, refused_noted, frame-request, frame-reply)

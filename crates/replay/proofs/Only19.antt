@@ -37,7 +37,7 @@ use Rattle.handover.specs.Wire.{accepted_by, order_of_reply}
 use Rattle.wire_log.specs.Log.{LogRecord, kinds, record_bytes, joined, log_of}
 use Rattle.wire_log.specs.Check.{records_of}
 use Rattle.wire_log.proofs.Tiling.{listed_is}
-use Rattle.replay.proofs.Serial.{by_test}
+use Rattle.replay.proofs.Noting.{by_test}
 use Rattle.replay.specs.Replay.{Told, yielded, silent, heard_on, joined_on, completes, polls, told_from, told, against, answering, orders_from, orders, or_refused, board_from, replayed_by, replayed}
 
 -- ---- what holds of a value that is served

@@ -2,7 +2,6 @@
 use Prim.Native.Nat.{ℕ}
 use mathlib.Core.Path.{◌≡◌, refl, sym, ap, subst, ◌∙◌}
 use mathlib.Core.List.{List, [], ◌∷◌, ◌++◌, map, append_assoc, append-nil}
-use borrow.Author.Tests.{ne_eqb}
 use Rattle.shdlc.specs.declared.Kind.{Kind}
 use Rattle.shdlc.specs.declared.Kind.TheVariants.{Request, Reply}
 use Rattle.shdlc.specs.Stream.{Event, byte, mark}
@@ -107,20 +106,6 @@ module _ (lease : ℕ) where
             ∙ after-append (noted lease) (after (noted lease) k xs) ys (silent ∷ [])
             ),
       ))
-
-  pub runs_past : (q p : Record) (k : Kept) (kind : ℕ) (body : List ℕ) → (kind ≡ 1 → ⊥) → (kind ≡ 2 → ⊥) → (kind ≡ 3 → ⊥)
-      → RunsOn lease q p k (recorded kind body ∷ []) q p k
-  unfolding RunsOn heard_on polls after
-  runs_past q p k kind body a b c =
-      λ earlier e f.
-      let r = recorded kind body in
-      let one : heard_on Request r ≡ [] = rw (ne_eqb kind 3 c, ne_eqb kind 1 a) in
-      let two : heard_on Reply r ≡ [] = rw (ne_eqb kind 3 c, ne_eqb kind 2 b) in
-      let none : polls r ≡ [] = rw (ne_eqb kind 3 c) in (
-        still Request earlier r q one e,
-        still Reply earlier r p two f,
-        sym (ap (after (noted lease) k) (told-parts earlier r [] [] [] (completes_none Request earlier r one) (completes_none Reply earlier r two) none)),
-      )
 
 -- ---- by no records, and by some and then others
 told-append : (more others earlier : List LogRecord) → told_from earlier (more ++ others) ≡ told_from earlier more ++ told_from (earlier ++ more) others

@@ -1,7 +1,7 @@
 -- "I2C entries are not in the log and stay empty": only temporary calibrations on the serial line come out of a replay. Assumes nothing.
 use Prim.Native.Nat.{ℕ, zero, suc}
 use mathlib.Core.Path.{◌≡◌, refl, sym, ap, subst, ◌∙◌}
-use mathlib.Core.Bool.{Bool, true, false, cond, not}
+use mathlib.Core.Bool.{Bool, true, not}
 use mathlib.Core.Logic.{◌⊎◌, inl, inr}
 use mathlib.Core.List.{List, [], ◌∷◌, ◌++◌, map}
 use mathlib.Core.Option.{Option, none, some}
@@ -29,7 +29,8 @@ use Rattle.handover.specs.Wire.{accepted_by, order_of_reply}
 use Rattle.wire_log.specs.Log.{LogRecord}
 use Rattle.replay.specs.Claims.{SerialCalibration, AllSerialCalibrations}
 use Rattle.replay.specs.Replay.{Told, yielded, silent, told, against, answering, orders_from, orders, or_refused, board_from, replayed_by}
-use Rattle.replay.specs.Private.{answer, OfLog}
+use Rattle.replay.specs.Private.{OfLog}
+use Rattle.replay.proofs.Noting.{by_test}
 
 -- ---- the orders: what they open and close is such an entry
 abbrev AllOfLog : List Order → Type 0
@@ -71,11 +72,6 @@ answering_log : (latest : Option (List ℕ)) (reply : List ℕ) (lease : ℕ) �
 answering_log (some frame) reply lease = against_log (read_request frame) reply lease
 answering_log none reply lease = tt
 
--- so of what the run keeps of a request
-pub answer_log : (latest : Option (ℕ × Asked)) (reply : List ℕ) (lease : ℕ) → OfLog (answer latest reply lease)
-answer_log none reply lease = tt
-answer_log (some (address, request)) reply lease = reply_log address request (read_reply address request reply).0 lease
-
 orders_log : (lease : ℕ) (ts : List Told) (latest : Option (List ℕ)) → AllOfLog (orders_from lease latest ts)
 unfolding orders_from
 orders_log lease [] latest = tt
@@ -92,10 +88,6 @@ Fine e = (e.kind ≡ 0) ⊎ SerialCalibration e
 abbrev AllFine : List Entry → Type 0
 AllFine [] = Unit {0}
 AllFine (e ∷ t) = Fine e × AllFine t
-
-pub by_test : {A : Type 0} (P : A → Type 0) (t : Bool) {a b : A} → P a → P b → P (cond t a b)
-by_test P true p q = p
-by_test P false p q = q
 
 fine_set : (t : List Entry) (i : ℕ) (e : Entry) → AllFine t → Fine e → AllFine (set t i e)
 fine_set [] i e h g = h

@@ -2,44 +2,25 @@
 // lease that is refused the one line of its number.
 #![tactic(auto)]
 
+use std::io;
 use std::io::Write;
 
-fn print<W: Write>(to: &mut W, file: &[u8], lease: u32) -> bool {
+fn print<W: Write>(to: &mut W, file: &[u8], lease: u32) -> io::Result<()> {
     let mut out = [0u8; 4096];
     let n = board_lines::text(replay::replay(file, lease, 32), &mut out);
     files::write_all(to, &out[..n])
 }
 
-fn complain<W: Write>(to: &mut W, text: &[u8]) {
-    files::write_all(to, text);
-}
-
 fn main(rt: HostRuntime) {
-    let mut name = [0u8; 4096];
-    let n = files::argument(&rt, 1, &mut name);
-    let mut log = match files::open(&rt, &name[..n]) {
-        Ok(log) => log,
-        Err(why) => {
-            files::fail(&mut rt.stderr(), b"replay: the log cannot be opened", &why);
-            return;
-        }
-    };
     // More than any log has.
-    let mut file = [0u8; 65536];
-    let loaded = files::load(&mut log, &mut file);
-    drop(log);
-    if !loaded.ok {
-        complain(
-            &mut rt.stderr(),
-            b"replay: the log cannot be read to its end\n",
-        );
+    let mut room = [0u8; 65536];
+    let Some(file) = files::first_log(&rt, b"replay", &mut room) else {
         return;
-    }
-    let mut digits = [0u8; 4096];
-    let k = files::argument(&rt, 2, &mut digits);
-    let lease = board_lines::lease::lease(&digits[..k]);
-    if !print(&mut rt.stdout(), &file[..loaded.length], lease) {
-        complain(
+    };
+    let mut text = [0u8; 4096];
+    let lease = board_lines::lease::lease(files::argument(&rt, 2, &mut text));
+    if print(&mut rt.stdout(), file, lease).is_err() {
+        let _ = files::write_all(
             &mut rt.stderr(),
             b"replay: standard output cannot be written\n",
         );

@@ -10,12 +10,10 @@ use lib.ListN.{length, get_or, take, drop, length-take, length-drop}
 use borrow.Author.Tests.{eq-eqb, ne_eqb, not-false}
 use Rattle.refusal.specs.declared.Refusal.{Refusal}
 use Rattle.refusal.proofs.Deciding.{Without}
-use Rattle.refusal.specs.Refusals.{Numbered, number, ◌carrying◌, number_in, Answered, served, refused, paper, in_order}
+use Rattle.refusal.specs.Refusals.{Numbered, number, ◌carrying◌, number_in, Answered, served, refused, paper, in_order, answered_as}
 use Rattle.shdlc.specs.declared.Kind.TheVariants as kind
-use Rattle.shdlc.specs.declared.Checked.{Checked}
-use Rattle.shdlc.specs.declared.Checked.TheVariants as checked
+use Rattle.std.specs.Prelude.{Result, Ok, Err}
 use Rattle.shdlc.specs.Body.{body_checks, check_body}
-use Rattle.shdlc.specs.Paper.{paper_checked}
 use Rattle.shdlc.proofs.Body.{passes}
 use Rattle.payload.specs.Field.{big}
 use Rattle.sfc6.specs.declared.Request.{Request}
@@ -24,7 +22,6 @@ use Rattle.sfc6.specs.declared.Answer.{Answer}
 use Rattle.sfc6.specs.declared.Answer.TheVariants as answer
 use Rattle.sfc6.specs.Commands.{row}
 use Rattle.sfc6.specs.Requests.{request_checks, check_request}
-use Rattle.sfc6.specs.Paper.{paper_passed}
 use Rattle.sfc6.proofs.Order.{never, first_refuses, then_more}
 use Rattle.replies.specs.declared.Content.TheVariants as content
 use Rattle.replies.specs.Replies.{reply_to, content_of}
@@ -85,38 +82,38 @@ module _ (address : ℕ) (q : Request) (body : List ℕ) where
   unfolding read_reply
   bare n h e = rw (e, h)
 
-  module _ {c : Checked} (is : paper_passed (address, q) c ≡ check_request address q) where
-    pub request_refused : {why : Refusal} → c ≡ checked.Refused why → (refused (paper why), none) ≡ read_reply address q body
+  module _ {c : Result (Unit {0}) Refusal} (is : answered_as (λ _. (address, q)) c ≡ check_request address q) where
+    pub request_refused : {why : Refusal} → c ≡ Err why → (refused (paper why), none) ≡ read_reply address q body
     unfolding check_request answer_to
     request_refused {why} e =
-        let f = sym is ∙ ap (paper_passed (address, q)) e in
+        let f = sym is ∙ ap (answered_as (λ _. (address, q))) e in
         bare (paper why) (not_number 15 (request_checks address q) (address, q) (refl, (refl, (refl, tt))) f)
         (first_refuses (address, q) (got q body) (body_checks kind.Reply body ++ read_checks address q body) (request_checks address q) f)
 
-    module _ (good : c ≡ checked.Good) where
+    module _ (good : c ≡ Ok tt) where
       past_request : answer_to address q body ≡ in_order (body_checks kind.Reply body ++ read_checks address q body) (got q body)
       unfolding check_request answer_to
       past_request =
           then_more (address, q) (got q body) (body_checks kind.Reply body ++ read_checks address q body) (request_checks address q)
-          (sym is ∙ ap (paper_passed (address, q)) good)
+          (sym is ∙ ap (answered_as (λ _. (address, q))) good)
 
-      module _ {d : Checked} (body_is : paper_checked body d ≡ check_body kind.Reply body) where
-        pub body_refused : {why : Refusal} → d ≡ checked.Refused why → (refused (paper why), none) ≡ read_reply address q body
+      module _ {d : Result (Unit {0}) Refusal} (body_is : answered_as (λ _. body) d ≡ check_body kind.Reply body) where
+        pub body_refused : {why : Refusal} → d ≡ Err why → (refused (paper why), none) ≡ read_reply address q body
         unfolding check_body
         body_refused {why} e =
-            let f = sym body_is ∙ ap (paper_checked body) e in
+            let f = sym body_is ∙ ap (answered_as (λ _. body)) e in
             bare (paper why) (not_number 15 (body_checks kind.Reply body) body (refl, (refl, (refl, (refl, tt)))) f)
             (past_request ∙ first_refuses body (got q body) (read_checks address q body) (body_checks kind.Reply body) f)
 
-        module _ (good_body : d ≡ checked.Good) where
+        module _ (good_body : d ≡ Ok tt) where
           past_body : answer_to address q body ≡ in_order (read_checks address q body) (got q body)
           unfolding check_body
           past_body =
               past_request
-              ∙ then_more body (got q body) (read_checks address q body) (body_checks kind.Reply body) (sym body_is ∙ ap (paper_checked body) good_body)
+              ∙ then_more body (got q body) (read_checks address q body) (body_checks kind.Reply body) (sym body_is ∙ ap (answered_as (λ _. body)) good_body)
 
           pub body_bounds : (5 ≤ length body) × (get_or body 3 0 ≡ length body - 5)
-          body_bounds = let p = passes kind.Reply body (sym body_is ∙ ap (paper_checked body) good_body) in (p.least, p.length_right)
+          body_bounds = let p = passes kind.Reply body (sym body_is ∙ ap (answered_as (λ _. body)) good_body) in (p.least, p.length_right)
 
           module _ {r : Row} (at_row : r ≡ row q) {x : Bool} (belongs : x ≡ foreign address r body) where
             pub reply_14 : x ≡ true → (refused (number 14), none) ≡ read_reply address q body
@@ -146,3 +143,5 @@ module _ (address : ℕ) (q : Request) (body : List ℕ) where
                     let e : answer_to address q body ≡ in_order (value_checks (reply_to q (big (data_in body)))) (got_by (size_of r.answer) q (data_in body)) =
                     past_body ∙ rw (← at_row, ← belongs, own, eq-eqb _ _ no_error) in
                     rw e f
+
+pub ruleset reading = (request_refused, body_refused, reply_14, reply_15)

@@ -1,13 +1,18 @@
 -- What a reply carries, where it is known not to be of one form. Assumes nothing.
 use mathlib.Core.Path.{◌≡◌, refl, subst}
 use mathlib.Core.Bool.{Bool, true, false, ◌||◌}
-use mathlib.Core.List.{List, [], ◌++◌, foldr}
+use mathlib.Core.List.{List, [], ◌++◌}
+use Rattle.std.specs.List.{fold}
 use Prim.Native.Nat.{ℕ, ◌+◌, min, ◌≤◌}
 use native.Mathlib.Omega.{arith}
 use lib.Dec.{T, eqb, ltb}
 use lib.ListN.{length, take}
 use lib.Seq.{take-append_seam}
 use borrow.Author.Tests.{ltb-false, le-ltb}
+use Rattle.std.specs.Prelude.{Result, Ok, Err}
+use Rattle.refusal.specs.declared.Refusal.{Refusal}
+use Rattle.refusal.specs.Refusals.{served, answered_as}
+use Rattle.refusal.proofs.Order.{refused_not_served}
 use Rattle.refusal.specs.Room.{overlay}
 use Rattle.payload.specs.Field.{big_endian, bytes_in}
 use Rattle.payload.specs.declared.fields.Width.{Width}
@@ -48,12 +53,17 @@ code_fits Text h = omega arith
 code_fits (Error code) h = ltb-false _ _ (or_false (eqb code 0) (ltb 127 code) h).1
 
 -- a text that is not too long is refused where it holds a 00
-pub text_held : (c : Content) (text : List ℕ) → c ≡ Text → {n : ℕ} → length text ≤ 254 → n ≡ foldr min 255 text → eqb n 0 ≡ bad_text c text
+pub text_held : (c : Content) (text : List ℕ) → c ≡ Text → {n : ℕ} → length text ≤ 254 → n ≡ fold min 255 text → eqb n 0 ≡ bad_text c text
 text_held c text is h e = rw (is, e) (simp (le-ltb _ _ h) (smallest_zero text))
 
 -- a product type has its text before the other data
 pub text_data : (c : Content) (text : List ℕ) {last : List ℕ} → c ≡ Text → last ≡ data_of c [] → text ++ last ≡ data_of c text
 text_data c text is e = rw (e, is)
+
+-- an answer that serves is a value
+pub served_ok : {A : Type 0} (says : A → ℕ) (r : Result A Refusal) (m : ℕ) → answered_as says r ≡ served m → (x : A) × (r ≡ Ok x) × (says x ≡ m)
+served_ok says (Ok x) m e = (x, refl, cc)
+served_ok says (Err why) m e = absurd (refused_not_served e)
 
 -- a number, and data of known form, at the start of the room
 pub width_there : (width : Width) (room : ℕ) → 4 ≤ room → 0 + bytes_in width ≤ room
@@ -68,7 +78,3 @@ number_put width n next out w e =
     let l = length-big_endian (bytes_in width) n in
     let k : next ≡ length (big_endian (bytes_in width) n) = omega arith in
     (omega (arith, width_there width 4 (omega arith)), rw (k, e.1) (take-append_seam (big_endian (bytes_in width) n) _))
-
-pub data_put : {c known : Content} → c ≡ known → (count : ℕ) {b n : ℕ} → b ≡ n → big_endian count n ≡ data_of known [] → (end : ℕ) (w : List ℕ)
-    → (end ≤ 4) × (take end w ≡ big_endian count b) → (end ≤ 4) × (take end w ≡ data_of c [])
-data_put is count e f end w g = rw (is, ← f, ← e) g

@@ -3,7 +3,6 @@ pub mod Table
 pub mod Taking
 pub mod Text
 pub mod Carried
-pub mod Belongs
 pub mod Writing
 pub mod Answers
 pub mod Kept

@@ -1,17 +1,11 @@
 -- A reply of the expected kind is taken apart, and any other is refused. Assumes nothing.
 use mathlib.Core.Path.{◌≡◌, refl}
-use mathlib.Core.Bool.{Bool, true, false, not, ◌||◌}
-use mathlib.Core.List.{[], ◌∷◌}
+use mathlib.Core.Bool.{Bool, true, false, ◌||◌}
 use lib.Dec.{eqb}
 use borrow.Author.Tests.{eq-eqb}
-use Rattle.refusal.specs.Refusals.{number, Answered, in_order}
 use Rattle.sfc6.specs.declared.Request.{Request}
 use Rattle.replies.specs.declared.Reply.{Reply}
-use Rattle.replies.specs.declared.Content.{Content}
-use Rattle.replies.specs.Replies.{reply_to, kind_of, suits, content_of}
-
-abbrev pub Take : Request → Reply → Answered Content
-Take q r = in_order ((not (suits q r), number 14) ∷ []) (content_of r)
+use Rattle.replies.specs.Replies.{reply_to, kind_of, suits}
 
 or_true : (a b : Bool) → b ≡ true → (a || b) ≡ true
 or_true true b h = refl

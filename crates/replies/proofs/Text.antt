@@ -1,39 +1,40 @@
 -- The text before the first 00. Assumes nothing.
 use mathlib.Core.Path.{◌≡◌, refl, ap, subst, ◌∙◌}
 use mathlib.Core.Bool.{Bool, true, false, cond, ◌||◌}
-use mathlib.Core.List.{List, [], ◌∷◌, ◌++◌, foldr}
-use Prim.Native.Nat.{ℕ, ◌+◌, min, ◌≤◌, ◌<◌}
+use mathlib.Core.List.{List, [], ◌∷◌, ◌++◌}
+use native.Mathlib.Nat.{zero-add}
+use Rattle.std.specs.Prelude.{Option, Some}
+use Rattle.std.specs.Option.{unwrap_or}
+use Rattle.std.specs.List.{fold, position, position_from}
+use Rattle.std.proofs.lemmas.Iterator.Adapters.{position_from-zero}
+use Prim.Native.Nat.{ℕ, ◌+◌, min, ◌≤◌}
 use native.Mathlib.Omega.{arith}
 use lib.Dec.{T, eqb}
-use lib.ListN.{length, get_or, take, drop}
+use lib.ListN.{length, take}
 use borrow.Author.Tests.{eq-eqb, ne_eqb, eqb-true, eqb-false}
-use Rattle.refusal.proofs.Rest.{rest_here, rest_end}
 use Rattle.sfc6.specs.Commands.{member}
 use Rattle.replies.specs.Reader.{text_in}
 
--- a search for the first 00
-module _ (l : List ℕ) (i : ℕ) where
-  pub zero_here : i < length l → get_or l i 0 ≡ 0 → length (text_in (drop i l)) ≡ 0
-  unfolding text_in
-  zero_here h e = rw (rest_here l i h) (simp (eq-eqb _ _ e))
+-- the place of the first 00, or how many bytes there are
+abbrev pub is_zero : ℕ → Bool
+is_zero b = eqb b 0
 
-  pub zero_later : i < length l → (get_or l i 0 ≡ 0 → ⊥) → length (text_in (drop i l)) ≡ 1 + length (text_in (drop (i + 1) l))
-  unfolding text_in
-  zero_later h n = rw (rest_here l i h) (simp (ne_eqb _ _ n) (omega arith))
+text_from : (bs : List ℕ) (i : ℕ) → unwrap_or (position_from is_zero i bs) (i + length bs) ≡ i + length (text_in bs)
+unfolding text_in
+text_from [] i = refl
+text_from (b ∷ bs) i = go (eqb b 0) (text_from bs (i + 1))
+  where
+    go : (x : Bool) → unwrap_or (position_from is_zero (i + 1) bs) (i + 1 + length bs) ≡ i + 1 + length (text_in bs)
+        → unwrap_or (cond x (Some i) (position_from is_zero (i + 1) bs)) (i + length (b ∷ bs)) ≡ i + length (cond x [] (b ∷ text_in bs))
+    go true h = omega arith
+    go false h =
+        let e : i + length (b ∷ bs) ≡ i + 1 + length bs = omega arith in
+        rw e (h ∙ omega arith)
 
-  pub no_zero : length l ≤ i → length (text_in (drop i l)) ≡ 0
-  unfolding text_in
-  no_zero h = rw (rest_end l i h)
+pub text_length : (bs : List ℕ) (r : Option ℕ) → r ≡ position is_zero bs → unwrap_or r (length bs) ≡ length (text_in bs)
+text_length bs r e = ap (λ (o : Option ℕ). unwrap_or o (length bs)) (e ∙ position_from-zero is_zero bs) ∙ simp zero-add at (text_from bs 0)
 
 -- a search for the smallest byte
-smaller : (b n : ℕ) (l : List ℕ) → foldr min (min b n) l ≡ min b (foldr min n l)
-smaller b n [] = refl
-smaller b n (x ∷ l) = let h = smaller b n l in omega arith
-
-pub smallest_later : (l : List ℕ) (i n m : ℕ) {x : ℕ} → i < length l → m ≡ min (get_or l i 0) n → foldr min n (drop i l) ≡ x
-    → foldr min m (drop (i + 1) l) ≡ x
-smallest_later l i n m h e f = rw e (smaller (get_or l i 0) n (drop (i + 1) l) ∙ (rw (rest_here l i h) at f))
-
 min_zero : (a b : ℕ) → eqb (min a b) 0 ≡ (eqb a 0 || eqb b 0)
 min_zero a b = go (eqb a 0) (eqb b 0) refl refl
   where
@@ -46,9 +47,20 @@ min_zero a b = go (eqb a 0) (eqb b 0) refl refl
         ne_eqb (min a b) 0 (λ m. omega arith)
 
 -- the smallest byte is 0 exactly if the text holds a 00
-pub smallest_zero : (t : List ℕ) → eqb (foldr min 255 t) 0 ≡ member 0 t
-smallest_zero [] = refl
-smallest_zero (b ∷ t) = min_zero b (foldr min 255 t) ∙ ap (λ (x : Bool). eqb b 0 || x) (smallest_zero t)
+or_then : (a b c : Bool) → ((a || b) || c) ≡ (a || (b || c))
+or_then true b c = refl
+or_then false b c = refl
+
+zero_below : (n : ℕ) (t : List ℕ) → eqb (fold min n t) 0 ≡ (eqb n 0 || member 0 t)
+zero_below n [] = go (eqb n 0)
+  where
+    go : (x : Bool) → x ≡ (x || false)
+    go true = refl
+    go false = refl
+zero_below n (b ∷ t) = zero_below (min n b) t ∙ ap (λ (x : Bool). x || member 0 t) (min_zero n b) ∙ or_then (eqb n 0) (eqb b 0) (member 0 t)
+
+pub smallest_zero : (t : List ℕ) → eqb (fold min 255 t) 0 ≡ member 0 t
+smallest_zero t = zero_below 255 t
 
 -- a text without 00 is read as it was written
 pub text_kept : (t : List ℕ) → member 0 t ≡ false → text_in (t ++ (0 ∷ [])) ≡ t

@@ -11,7 +11,7 @@ use borrow.Author.Tests.{eq-eqb, ne_eqb}
 use Rattle.refusal.specs.Refusals.{served}
 use Rattle.refusal.specs.Room.{emit}
 use Rattle.shdlc.specs.declared.Kind.TheVariants as kind
-use Rattle.shdlc.specs.declared.Checked.TheVariants as checked
+use Rattle.std.specs.Prelude.{Ok}
 use Rattle.shdlc.specs.Body.{check_body}
 use Rattle.shdlc.specs.Frame.{with_checksum}
 use Rattle.shdlc.specs.Stream.{byte, items}
@@ -137,7 +137,7 @@ module _ (address index b state : ℕ) (bit7 : Bool) (one : address ≡ 255 → 
   said_byte : read_reply address asked said ≡ (served (value (say.Validity (validity_of b))), some bit7)
   unfolding body_of
   said_byte =
-      sym (data_read address asked said {c = checked.Good} asked_well refl {d = checked.Good} good refl {r = row asked} refl {x = false} own refl no_error byte_read)
+      sym (data_read address asked said {c = Ok tt} asked_well refl {d = Ok tt} good refl {r = row asked} refl {x = false} own refl no_error byte_read)
 
 pub any_byte : (address index b : ℕ) (bit7 : Bool) → (address ≡ 255 → ⊥)
     → read_reply address (ask.Validity index) (with_checksum (body_of address 0x40 (cond bit7 0x80 0) (b ∷ [])))

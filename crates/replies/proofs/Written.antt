@@ -14,7 +14,7 @@ use Rattle.refusal.specs.Refusals.{Numbered, number, ◌carrying◌, Answered, s
 use Rattle.refusal.specs.Room.{overlay, emit, lay}
 use Rattle.refusal.proofs.Order.{passed}
 use Rattle.shdlc.specs.declared.Kind.TheVariants as kind
-use Rattle.shdlc.specs.declared.Checked.TheVariants as checked
+use Rattle.std.specs.Prelude.{Ok}
 use Rattle.shdlc.specs.Checksum.{checksum_of}
 use Rattle.shdlc.specs.Body.{check_body}
 use Rattle.shdlc.specs.Frame.{with_checksum}
@@ -211,7 +211,7 @@ module _ (address : ℕ) (q : Request) (r : Reply) (words : List ℕ) (bit7 : Bo
       let some-code : code_in body ≡ 0 → ⊥ = λ z. eqb-false code 0 (or_false (eqb code 0) (ltb 127 code) range).0 (sym c ∙ sym code_there ∙ z) in
       let empty : length_in body ≡ 0 = length_there ∙ ap (λ (x : Reply). length (data_of (content_of x) words)) e in
       let f = own (rw (ne_eqb _ _ some-code, eq-eqb _ _ empty)) in
-      sym (reply_15 address q body {c = checked.Good} (sym a.request_good) refl {d = checked.Good} (sym good) refl {r = row q} refl {x = false} f refl some-code)
+      sym (reply_15 address q body {c = Ok tt} (sym a.request_good) refl {d = Ok tt} (sym good) refl {r = row q} refl {x = false} f refl some-code)
       ∙ ap (λ (x : ℕ). beside (refused (15 carrying x)) (bit7_in body)) (code_there ∙ c)
       ∙ ap (beside (refused (15 carrying code))) bit7_there
 
@@ -228,7 +228,7 @@ module _ (address : ℕ) (q : Request) (r : Reply) (words : List ℕ) (bit7 : Bo
       subst (λ (t : Bool). beside (comes_back r words (content_of r)) bit7 ≡ of_data q (row q).answer (data_in body) t) (sym bit7_there)
       (read_as q r (data_in body) bit7 a.in_range_lem a.good_float (ap (λ (d : List ℕ). reply_to q (big d)) data_there ∙ b.same)
       (ap (λ (d : List ℕ). served (got_by (size_of (row q).answer) q d)) data_there ∙ b.got)) in
-      sym (data_read address q body {c = checked.Good} (sym a.request_good) refl {d = checked.Good} (sym good) refl {r = row q} refl {x = false} f refl no_code read)
+      sym (data_read address q body {c = Ok tt} (sym a.request_good) refl {d = Ok tt} (sym good) refl {r = row q} refl {x = false} f refl no_code read)
 
   pub reply-back : Fits (content_of r) → read_reply address q body ≡ (comes_back r words (content_of r), some bit7)
   reply-back h = go (sort r)

@@ -1,12 +1,11 @@
 -- A request laid down part by part, each part from the place after the one before. Assumes nothing.
 use mathlib.Core.Path.{◌≡◌, refl, sym, ap, subst, ◌∙◌}
-use mathlib.Core.Logic.{◌⊎◌, inl, inr}
 use mathlib.Core.List.{List, [], ◌∷◌, ◌++◌, append_assoc, append-nil}
-use Prim.Native.Nat.{ℕ, zero, suc, ◌+◌, ◌-◌, ◌/◌, ◌%◌, ◌≤◌, ◌<◌}
+use Prim.Native.Nat.{ℕ, ◌+◌, ◌-◌, ◌/◌, ◌%◌, ◌≤◌, ◌<◌}
 use native.Mathlib.Nat.{div-one}
 use native.Mathlib.Omega.{arith}
 use borrow.Author.Tests.{ne_eqb}
-use lib.ListN.{length, set, take, length-append}
+use lib.ListN.{length, set, length-append}
 use Rattle.refusal.specs.Room.{overlay}
 use Rattle.refusal.proofs.Room.{overlay_nothing, set-overlay, set-two, write_then}
 use Rattle.payload.specs.Field.{big_endian}
@@ -15,25 +14,19 @@ use Rattle.shdlc.specs.Checksum.{sum, checksum_of}
 use Rattle.shdlc.specs.Stuffing.{stuff_byte, stuff}
 use Rattle.shdlc.specs.Frame.{put_at, frame_of}
 use Rattle.shdlc.proofs.Stuffing.{byte_short, stuff-append, stuff_short}
-use Rattle.shdlc.specs.Paper.{written_of}
 use Rattle.shdlc.proofs.Frame.{frame-parts, frame-length, sum-append, put-done}
-use Rattle.sfc6.specs.declared.Subcommand.{Subcommand}
-use Rattle.sfc6.specs.declared.Subcommand.TheVariants as sub
+use Rattle.std.specs.Prelude.{Option, Some, None, Result, Ok}
+use Rattle.std.specs.Option.{unwrap_or}
+use Rattle.refusal.specs.declared.Refusal.{Refusal}
+use Rattle.refusal.specs.Refusals.{answered}
+use Rattle.refusal.proofs.OneToOne.{answered-one_to_one}
 use Rattle.sfc6.specs.declared.Value.{Value}
-use Rattle.sfc6.specs.declared.Value.TheVariants.{Nothing, Float, U32, Address, Baud}
+use Rattle.sfc6.specs.declared.Value.TheVariants as value
+use Rattle.sfc6.specs.declared.form.Size.{Size}
+use Rattle.sfc6.specs.declared.form.Size.TheVariants.{Nothing, Byte, Four}
 use Rattle.sfc6.specs.declared.Row.{Row}
 use Rattle.sfc6.specs.Commands.{row, request_at}
-use Rattle.sfc6.specs.Requests.{sub_bytes, value_bytes, data_of, body_with}
-
--- how many bytes a value of the table takes
-abbrev pub Sized : ℕ → Type 0
-Sized size = (size ≡ 0) ⊎ ((size ≡ 1) ⊎ (size ≡ 4))
-
--- the body of the request at a place of the table, carrying a number
-abbrev pub body_at : ℕ → ℕ → ℕ → List ℕ
-body_at address place n =
-    body_with address (row (request_at place 0)).command
-    (sub_bytes (row (request_at place 0)).sub ++ big_endian (length (value_bytes (row (request_at place 0)).value)) n)
+use Rattle.sfc6.specs.Requests.{sub_bytes, value_bytes, bytes_of, data_of, body_with, body_at}
 
 -- bytes written at the start of a room: how many, and the room then
 abbrev pub Began : List ℕ → List ℕ → ℕ → List ℕ → Type 0
@@ -44,11 +37,12 @@ abbrev pub Wrote : List ℕ → ℕ → List ℕ → ℕ → List ℕ → Type 0
 Wrote room place bytes next after = (next ≡ place + length bytes) × (after ≡ overlay room place bytes)
 
 -- one byte, stuffed
-pub put_wrote : (room : List ℕ) (place b : ℕ) {next : ℕ} {after : List ℕ} → place + 2 ≤ length room → (written_of next, after) ≡ put_at room place b
-    → Wrote room place (stuff_byte b) next after
-put_wrote room place b h e =
+pub put_wrote : (room : List ℕ) (place b : ℕ) (answer : Result ℕ Refusal) {after : List ℕ} → place + 2 ≤ length room
+    → (answered answer, after) ≡ put_at room place b → (answer ≡ Ok (place + length (stuff_byte b))) × (after ≡ overlay room place (stuff_byte b))
+put_wrote room place b answer h e =
     let fits : place + length (stuff_byte b) ≤ length room = omega (arith, (byte_short b).1) in
-    put-done room place b fits e
+    let done = put-done room place b fits e in
+    (answered-one_to_one answer (Ok (place + length (stuff_byte b))) done.0, done.1)
 
 pub set_wrote : (room : List ℕ) (place b : ℕ) → place < length room → Wrote room place (b ∷ []) (place + 1) (set room place b)
 set_wrote room place b h = (refl, set-overlay room place b h)
@@ -69,11 +63,11 @@ pub one_byte_lem : (n : ℕ) → big_endian 1 n ≡ n % 256 ∷ []
 unfolding big_endian
 one_byte_lem n = rw (div-one n)
 
--- so many bytes of a number take at most eight bytes
-pub sized_short : (size n : ℕ) → Sized size → length (stuff (big_endian size n)) ≤ 8
-sized_short size n (inl e) = omega (arith, stuff_short (big_endian size n), length-big_endian size n)
-sized_short size n (inr (inl e)) = omega (arith, stuff_short (big_endian size n), length-big_endian size n)
-sized_short size n (inr (inr e)) = omega (arith, stuff_short (big_endian size n), length-big_endian size n)
+-- the bytes of a number take at most eight bytes
+pub sized_short : (size : Size) (n : ℕ) → length (stuff (big_endian (bytes_of size) n)) ≤ 8
+sized_short Nothing n = omega (arith, stuff_short (big_endian 0 n), length-big_endian 0 n)
+sized_short Byte n = omega (arith, stuff_short (big_endian 1 n), length-big_endian 1 n)
+sized_short Four n = omega (arith, stuff_short (big_endian 4 n), length-big_endian 4 n)
 
 -- four bytes, one after the other
 pub four_wrote : (room w x y z : List ℕ) (place p q r s a b c d : ℕ) → place ≤ length room
@@ -91,12 +85,6 @@ pub small_plain : (b : ℕ) → b ≤ 5 → stuff_byte b ≡ b ∷ []
 unfolding stuff_byte
 small_plain b h = simp (ne_eqb b 0x7E (λ e. omega arith), ne_eqb b 0x7D (λ e. omega arith), ne_eqb b 0x11 (λ e. omega arith), ne_eqb b 0x13 (λ e. omega arith))
 
-pub sub_plain : (s count : ℕ) → count ≤ 1 → stuff_byte s ≡ s ∷ [] → stuff (take count (s ∷ [])) ≡ take count (s ∷ [])
-unfolding stuff
-sub_plain s zero h e = refl
-sub_plain s (suc zero) h e = rw e
-sub_plain s (suc (suc count)) h e = absurd (omega arith)
-
 regrouped : (a b c d e f : List ℕ) → (((a ++ b) ++ c) ++ d) ++ (e ++ f) ≡ ((a ++ (b ++ (c ++ d))) ++ e) ++ f
 regrouped a b c d e f = simp append_assoc
 
@@ -111,10 +99,10 @@ module _ (address command size : ℕ) (S B : List ℕ) where
   unfolding checksum_of sum
   total_is long total e = rw (← long, sum-append S B) (ap (λ (x : ℕ). 255 - x % 256) (e ∙ omega arith))
 
-  body_stuffed : stuff_byte command ≡ command ∷ [] → stuff S ≡ S → size ≡ length (S ++ B) → size ≤ 5
+  body_stuffed : (stuff_byte command ≡ command ∷ []) × (stuff S ≡ S) → size ≡ length (S ++ B) → size ≤ 5
       → stuff (body_with address command (S ++ B)) ≡ stuff_byte address ++ (command ∷ size ∷ (S ++ stuff B))
   unfolding stuff
-  body_stuffed plain-command plain-sub long small = rw (← long, plain-command, small_plain size small, stuff-append S B, plain-sub)
+  body_stuffed plain long small = rw (← long, plain.0, small_plain size small, stuff-append S B, plain.1)
 
   frame_made : stuff (body_with address command (S ++ B)) ≡ stuff_byte address ++ (command ∷ size ∷ (S ++ stuff B))
       → (total : ℕ) → 255 - total % 256 ≡ checksum_of (body_with address command (S ++ B))
@@ -124,50 +112,21 @@ module _ (address command size : ℕ) (S B : List ℕ) where
       rw (e, frame-parts (body_with address command (S ++ B)), body)
       (ap (λ (l : List ℕ). 0x7E ∷ l) (regrouped (stuff_byte address) (command ∷ size ∷ []) S (stuff B) _ _))
 
-pub sub_short : (s : Subcommand) → length (sub_bytes s) ≤ 1
-sub_short sub.Missing = omega arith
-sub_short (sub.Byte s) = omega arith
+pub sub_short : (s : Option ℕ) → length (sub_bytes s) ≤ 1
+sub_short None = omega arith
+sub_short (Some s) = omega arith
 
 pub value_short : (v : Value) → length (value_bytes v) ≤ 4
 unfolding big_endian
-value_short Nothing = omega arith
-value_short (Float x) = omega arith
-value_short (U32 n) = omega arith
-value_short (Address a) = omega arith
-value_short (Baud rate) = omega arith
+value_short value.Nothing = omega arith
+value_short (value.Float x) = omega arith
+value_short (value.U32 n) = omega arith
+value_short (value.Address a) = omega arith
+value_short (value.Baud rate) = omega arith
 
 pub data_short : (r : Row) → length (data_of r) ≤ 5
 unfolding data_of
 data_short r = omega (arith, length-append (sub_bytes r.sub) (value_bytes r.value), sub_short r.sub, value_short r.value)
-
--- one byte of a subcommand
-pub one_taken : (count s : ℕ) → count ≤ 1 → (count ≡ 0 → ⊥) → take count (s ∷ []) ≡ s ∷ []
-one_taken zero s h k = absurd (k refl)
-one_taken (suc zero) s h k = refl
-one_taken (suc (suc count)) s h k = absurd (omega arith)
-
--- a size that is neither 4 nor 1 is 0
-none_left : (size : ℕ) → Sized size → (size ≡ 4 → ⊥) → (size ≡ 1 → ⊥) → size ≡ 0
-none_left size (inl e) h k = e
-none_left size (inr (inl e)) h k = absurd (k e)
-none_left size (inr (inr e)) h k = absurd (h e)
-
-pub no_byte : (size n : ℕ) → Sized size → (size ≡ 4 → ⊥) → (size ≡ 1 → ⊥) → stuff (big_endian size n) ≡ []
-unfolding stuff big_endian
-no_byte size n is h k = rw (none_left size is h k)
-
--- the sums of these bytes
-pub four_sum : (n : ℕ) → sum (big_endian 4 n) ≡ n / 0x1000000 % 256 + n / 0x10000 % 256 + n / 0x100 % 256 + n % 256
-unfolding sum
-four_sum n = rw (four_bytes n) (omega arith)
-
-pub one-sum : (n : ℕ) → sum (big_endian 1 n) ≡ n % 256
-unfolding sum
-one-sum n = rw (one_byte_lem n) (omega arith)
-
-pub no_sum : (size n : ℕ) → Sized size → (size ≡ 4 → ⊥) → (size ≡ 1 → ⊥) → sum (big_endian size n) ≡ 0
-unfolding sum big_endian
-no_sum size n is h k = rw (none_left size is h k)
 
 -- the front of a frame: its 7E, then a byte stuffed, then two as they are
 pub front_wrote : (room after : List ℕ) (bytes : List ℕ) (place b c : ℕ) → 0 < length room → Wrote (set room 0 0x7E) 1 bytes place after
@@ -182,68 +141,69 @@ front_wrote room after bytes place b c h e k =
 pub front_short : (address command size : ℕ) → length (front address command size) ≤ 5
 front_short address command size = omega (arith, byte_short address, length-append (stuff_byte address) (command ∷ size ∷ []))
 
-pub sized_most : (size : ℕ) → Sized size → size ≤ 4
-sized_most size (inl e) = omega arith
-sized_most size (inr (inl e)) = omega arith
-sized_most size (inr (inr e)) = omega arith
+pub sized_most : (size : Size) → bytes_of size ≤ 4
+sized_most Nothing = omega arith
+sized_most Byte = omega arith
+sized_most Four = omega arith
 
-pub taken_short : (count s : ℕ) → count ≤ 1 → length (take count (s ∷ [])) ≡ count
-taken_short zero s h = refl
-taken_short (suc zero) s h = refl
-taken_short (suc (suc count)) s h = absurd (omega arith)
-
--- the four parts of a command's frame
-pub command_wrote : (room w x y z : List ℕ) (address command s count size n p q r end total : ℕ)
-    → count ≤ 1 → Sized size → sum (take count (s ∷ [])) ≡ s → stuff_byte command ≡ command ∷ [] → stuff_byte s ≡ s ∷ []
-    → Began room (front address command (count + size)) p w → Wrote w p (take count (s ∷ [])) q x
-    → Wrote x q (stuff (big_endian size n)) r y → Wrote y r (stuff_byte (255 - total % 256) ++ (0x7E ∷ [])) end z
-    → total ≡ address + command + (count + size) + s + sum (big_endian size n)
-    → Began room (frame_of (body_with address command (take count (s ∷ []) ++ big_endian size n))) end z
-command_wrote room w x y z address command s count size n p q r end total small sized sub-sum plain-command plain-sub f g h i e =
-    let S : List ℕ = take count (s ∷ []) in
-    let B : List ℕ = big_endian size n in
-    let long : count + size ≡ length (S ++ B) = omega (arith, length-append S B, taken_short count s small, length-big_endian size n) in
-    let five : count + size ≤ 5 = omega (arith, sized_most size sized) in
-    let is = total_is address command (count + size) S B long total (rw sub-sum e) in
-    let one = write_then room w x (front address command (count + size)) S 0 p q (omega arith) (omega (arith, f.0), f.1) g in
-    let two = write_then room x y (front address command (count + size) ++ S) (stuff B) 0 q r (omega arith) one h in
-    let three = write_then room y z ((front address command (count + size) ++ S) ++ stuff B) _ 0 r end (omega arith) two i in
-    let body = body_stuffed address command (count + size) S B plain-command (sub_plain s count small plain-sub) long five in
-    let whole = wrote_same room 0 (frame_made address command (count + size) S B body total is) three in
-    (omega (arith, whole.0), whole.1)
-
--- such a frame is at most 17 bytes
-pub frame_short : (address command s count size n : ℕ) → count ≤ 1 → Sized size → stuff_byte command ≡ command ∷ [] → stuff_byte s ≡ s ∷ []
-    → length (frame_of (body_with address command (take count (s ∷ []) ++ big_endian size n))) ≤ 17
-frame_short address command s count size n small sized plain-command plain-sub =
-    let S : List ℕ = take count (s ∷ []) in
-    let B : List ℕ = big_endian size n in
-    let c : ℕ = checksum_of (body_with address command (S ++ B)) in
-    let long : count + size ≡ length (S ++ B) = omega (arith, length-append S B, taken_short count s small, length-big_endian size n) in
-    let body = body_stuffed address command (count + size) S B plain-command (sub_plain s count small plain-sub) long
-    (omega (arith, sized_most size sized)) in
-    omega (
-      arith,
-      frame-length (body_with address command (S ++ B)),
-      ap length body,
-      length-append (stuff_byte address) (command ∷ (count + size) ∷ (S ++ stuff B)),
-      length-append S (stuff B),
-      byte_short address,
-      byte_short c,
-      taken_short count s small,
-      sized_short size n sized,
-    )
-
--- how many bytes a row's value takes, and its subcommand as a sum and a count
-pub value_sized : (v : Value) → Sized (length (value_bytes v))
-unfolding big_endian
-value_sized Nothing = inl refl
-value_sized (Float x) = inr (inr refl)
-value_sized (U32 n) = inr (inr refl)
-value_sized (Address a) = inr (inl refl)
-value_sized (Baud rate) = inr (inr refl)
-
-pub sub_taken : (s : Subcommand) → take (length (sub_bytes s)) (sum (sub_bytes s) ∷ []) ≡ sub_bytes s
+-- a subcommand's sum is that of the byte, or 0
+pub sub_sum : (sub : Option ℕ) → sum (sub_bytes sub) ≡ unwrap_or sub 0
 unfolding sum
-sub_taken sub.Missing = refl
-sub_taken (sub.Byte s) = ap (λ (x : ℕ). x ∷ []) (omega arith)
+sub_sum None = refl
+sub_sum (Some s) = omega arith
+
+-- the parts of a command's frame
+module _ (address command : ℕ) (sub : Option ℕ) (size : Size) (n : ℕ)
+    (plain : (stuff_byte command ≡ command ∷ []) × (stuff (sub_bytes sub) ≡ sub_bytes sub)) where
+  abbrev S : List ℕ
+  S = sub_bytes sub
+
+  abbrev B : List ℕ
+  B = big_endian (bytes_of size) n
+
+  abbrev count : ℕ
+  count = length S + bytes_of size
+
+  long : count ≡ length (S ++ B)
+  long = omega (arith, length-append S B, length-big_endian (bytes_of size) n)
+
+  five : count ≤ 5
+  five = omega (arith, sized_most size, sub_short sub)
+
+  stuffed : stuff (body_with address command (S ++ B)) ≡ stuff_byte address ++ (command ∷ count ∷ (S ++ stuff B))
+  stuffed = body_stuffed address command count S B plain long five
+
+  pub command_wrote : (room w x y z : List ℕ) (p q r end total : ℕ)
+      → Began room (front address command count) p w → Wrote w p S q x → Wrote x q (stuff B) r y
+      → Wrote y r (stuff_byte (255 - total % 256) ++ (0x7E ∷ [])) end z
+      → total ≡ address + command + count + unwrap_or sub 0 + sum B
+      → Began room (frame_of (body_with address command (S ++ B))) end z
+  command_wrote room w x y z p q r end total f g h i e =
+      let is = total_is address command count S B long total (rw (sub_sum sub) e) in
+      let one = write_then room w x (front address command count) S 0 p q (omega arith) (omega (arith, f.0), f.1) g in
+      let two = write_then room x y (front address command count ++ S) (stuff B) 0 q r (omega arith) one h in
+      let three = write_then room y z ((front address command count ++ S) ++ stuff B) _ 0 r end (omega arith) two i in
+      let whole = wrote_same room 0 (frame_made address command count S B stuffed total is) three in
+      (omega (arith, whole.0), whole.1)
+
+  -- such a frame is at most 17 bytes
+  pub frame_short : length (frame_of (body_with address command (S ++ B))) ≤ 17
+  frame_short =
+      let c : ℕ = checksum_of (body_with address command (S ++ B)) in
+      omega (
+        arith,
+        frame-length (body_with address command (S ++ B)),
+        ap length stuffed,
+        length-append (stuff_byte address) (command ∷ count ∷ (S ++ stuff B)),
+        length-append S (stuff B),
+        byte_short address,
+        byte_short c,
+        sub_short sub,
+        sized_short size n,
+      )
+
+-- the body of a form that is that of a row
+pub form_body : (address place n : ℕ) {command : ℕ} {sub : Option ℕ} {size : ℕ} → command ≡ (row (request_at place 0)).command
+    → sub ≡ (row (request_at place 0)).sub → size ≡ length (value_bytes (row (request_at place 0)).value)
+    → body_with address command (sub_bytes sub ++ big_endian size n) ≡ body_at address place n
+form_body address place n e f g = rw (e, f, g)

@@ -3,30 +3,21 @@ use mathlib.Core.Path.{◌≡◌, refl, sym, ap, ◌∙◌}
 use mathlib.Core.Logic.{◌⊎◌, inl, inr, ⊎_elim}
 use mathlib.Core.Bool.{Bool, true, false, ◌&&◌}
 use mathlib.Core.List.{List, [], ◌∷◌}
-use Prim.Native.Nat.{ℕ, ◌^◌, ◌≤◌, ◌<◌}
+use Prim.Native.Nat.{ℕ, ◌<◌}
 use native.Mathlib.Omega.{arith}
-use borrow.Author.Tests.{lt-ltb, le-ltb, ltb-true, eqb-true}
+use borrow.Author.Tests.{lt-ltb, ltb-true, eqb-true}
 use lib.Dec.{ltb, eqb}
 use lib.ListN.{drop, take-append-drop}
 use Rattle.refusal.specs.declared.Refusal.{Refusal}
-use Rattle.refusal.specs.Refusals.{Numbered, Answered, number, served, refused, paper, in_order}
-use Rattle.refusal.specs.Room.{emit, lay}
-use Rattle.shdlc.specs.declared.Checked.{Checked}
-use Rattle.shdlc.specs.declared.Checked.TheVariants.{Good, Refused}
-use Rattle.shdlc.specs.Frame.{frame_of, write_frame}
-use Rattle.shdlc.specs.Paper.{written_of}
+use Rattle.refusal.specs.Refusals.{Numbered, Answered, number, served, refused, paper, answered, in_order}
+use Rattle.refusal.specs.Room.{lay}
+use Rattle.std.specs.Prelude.{Result, Ok, Err}
+use Rattle.shdlc.specs.Frame.{frame_of}
 use Rattle.sfc6.specs.declared.Request.{Request}
-use Rattle.sfc6.specs.declared.Typed.{Typed}
-use Rattle.sfc6.specs.declared.Typed.TheVariants as typed
 use Rattle.sfc6.specs.Commands.{row, request_at}
 use Rattle.sfc6.specs.Requests.{request_checks, check_request, numbered, body_of, frame_to_write, write_request, write_numbered}
 use Rattle.sfc6.specs.Rounds.{append_request, append_numbered}
-use Rattle.sfc6.specs.Paper.{paper_passed, paper_typed}
 use Rattle.sfc6.proofs.Order.{never, first_refuses}
-use Rattle.sfc6.proofs.Checks.{passed_request}
-use Rattle.sfc6.proofs.Laid.{body_at}
-use Rattle.sfc6.proofs.Rewritten.{numbered-body}
-use Rattle.sfc6.proofs.Writing.{Says, frame_by_check, write_refused, write_laid}
 
 -- ---- the request of a number
 module _ (place n : ℕ) where
@@ -75,19 +66,21 @@ module _ (address place n : ℕ) where
   unfolding write_numbered
   no_frame h room = rw (lt-ltb _ _ h)
 
-  module _ (within : place ≤ 20) (c : Checked) (is : Says address request c) where
-    pub frame_refused : (room : List ℕ) {why : Refusal} → c ≡ Refused why → (refused (paper why), room) ≡ write_numbered address place n room
+  module _ (t : Result Request Refusal) (is : answered t ≡ numbered place n) where
+    stopped : {why : Refusal} → t ≡ Err why → (room : List ℕ) → write_numbered address place n room ≡ (refused (paper why), room)
     unfolding write_numbered
-    frame_refused room e = rw (le-ltb _ _ within) (write_refused address request room _ c (frame_by_check address request c is) e)
+    stopped {why} e room =
+        ⊎_elim (λ h. rw (h.0, h.1))
+        (λ h. rw (h.0, h.1) (write_stopped address request room (number 12) (wide_refused address place n h.2 h.3)))
+        (numbered_refused place n (paper why) (sym is ∙ ap answered e))
 
-    pub frame-laid : (room : List ℕ) → c ≡ Good → n < 2 ^ 32 → (size : ℕ) {o : Answered ℕ} {w : List ℕ} → o ≡ written_of size
-        → (written_of size, w) ≡ write_frame (body_at address place n) room → (o, w) ≡ write_numbered address place n room
+    pub write_none : (room : List ℕ) {why : Refusal} → t ≡ Err why → (refused (paper why), room) ≡ write_numbered address place n room
+    write_none room e = sym (stopped e room)
+
+    pub write_known : (room : List ℕ) {q : Request} → t ≡ Ok q → {o : Answered ℕ × List ℕ} → o ≡ write_request address q room
+        → o ≡ write_numbered address place n room
     unfolding write_numbered
-    frame-laid room e small size f h =
-        let passed = passed_request address request (sym is ∙ ap (paper_passed (address, request)) e) in
-        rw (le-ltb _ _ within)
-        (write_laid address request room _ c (frame_by_check address request c is) e size f
-        (h ∙ ap (λ (b : List ℕ). emit (frame_of b) room) (numbered-body address place n within small passed)))
+    write_known room {q} e h = let k = numbered_served place n q (sym is ∙ ap answered e) in h ∙ rw (k.0, k.1)
 
   -- in the middle of a buffer
   module _ (buffer : List ℕ) (start : ℕ) where
@@ -96,17 +89,11 @@ module _ (address place n : ℕ) where
     unfolding append_numbered
     nothing m h = rw (h (drop start buffer), take-append-drop)
 
-    module _ (t : Typed) (is : paper_typed t ≡ numbered place n) where
-      pub append_none : {why : Refusal} → t ≡ typed.Refused why → (refused (paper why), buffer) ≡ append_numbered buffer start address place n
-      unfolding write_numbered
-      append_none {why} e =
-          nothing (paper why)
-          (λ room.
-          ⊎_elim (λ h. rw (h.0, h.1))
-          (λ h. rw (h.0, h.1) (write_stopped address request room (number 12) (wide_refused address place n h.2 h.3)))
-          (numbered_refused place n (paper why) (sym is ∙ ap paper_typed e)))
+    module _ (t : Result Request Refusal) (is : answered t ≡ numbered place n) where
+      pub append_none : {why : Refusal} → t ≡ Err why → (refused (paper why), buffer) ≡ append_numbered buffer start address place n
+      append_none {why} e = nothing (paper why) (stopped t is e)
 
-      pub append-known : {q : Request} → t ≡ typed.Known q → {o : Answered ℕ × List ℕ} → o ≡ append_request buffer start address q
+      pub append-known : {q : Request} → t ≡ Ok q → {o : Answered ℕ × List ℕ} → o ≡ append_request buffer start address q
           → o ≡ append_numbered buffer start address place n
       unfolding append_numbered append_request write_numbered
-      append-known {q} e h = let k = numbered_served place n q (sym is ∙ ap paper_typed e) in h ∙ rw (k.0, k.1)
+      append-known {q} e h = let k = numbered_served place n q (sym is ∙ ap answered e) in h ∙ rw (k.0, k.1)

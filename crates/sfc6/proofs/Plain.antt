@@ -1,23 +1,24 @@
 -- The requests one by one: no command and no subcommand of the table is a byte that is stuffed, and each is the request at its number
 -- with the number that it carries. Assumes nothing.
-use mathlib.Core.Path.{◌≡◌, refl, ap, ◌∙◌}
-use mathlib.Core.List.{[], ◌∷◌, ◌++◌}
-use Prim.Native.Nat.{ℕ, ◌≤◌}
-use lib.ListN.{length, take}
+use mathlib.Core.Path.{◌≡◌, refl, ◌∙◌}
+use mathlib.Core.List.{List, [], ◌∷◌, ◌++◌}
+use Prim.Native.Nat.{ℕ, zero, suc, ◌<◌}
+use native.Mathlib.Omega.{arith}
+use Rattle.std.specs.Prelude.{Option}
+use lib.ListN.{length, get_or}
 use Rattle.payload.specs.Field.{big_endian}
-use Rattle.shdlc.specs.Checksum.{sum}
-use Rattle.shdlc.specs.Stuffing.{stuff_byte}
 use Rattle.sfc6.specs.declared.Request.{Request}
 use Rattle.sfc6.specs.declared.Request.TheVariants.{GetSetpoint, SetSetpoint, MeasuredValue, GetGain, SetGain, GetInitStep, SetInitStep, RawFlow, RawConductivity, Temperature, NumberOfCalibrations, Validity, FullScale, GetCalibration, SetCalibration, VolatileCalibration, GetAddress, SetAddress, GetBaud, SetBaud, ProductType}
 use Rattle.sfc6.specs.declared.Value.{Value}
 use Rattle.sfc6.specs.declared.Value.TheVariants as value
-use Rattle.sfc6.specs.Commands.{row, place_of, value_in, value_of}
-use Rattle.sfc6.specs.Requests.{sub_bytes, value_bytes, data_of, body_with, body_of}
-use Rattle.sfc6.proofs.Laid.{Sized, body_at, sub_short, sub_taken, value_sized}
+use Rattle.shdlc.specs.Stuffing.{stuff_byte, stuff}
+use Rattle.sfc6.specs.declared.form.Form.{Form}
+use Rattle.sfc6.specs.Commands.{row, request_at, place_of, value_in, value_of}
+use Rattle.sfc6.specs.Requests.{sub_bytes, value_bytes, bytes_of, data_of, body_at, body_of}
 
-plain : (q : Request)
-    → (stuff_byte (row q).command ≡ (row q).command ∷ []) × (stuff_byte (sum (sub_bytes (row q).sub)) ≡ sum (sub_bytes (row q).sub) ∷ [])
-unfolding row stuff_byte sum
+-- no command and no subcommand of the table is a byte that is stuffed
+pub plain : (q : Request) → (stuff_byte (row q).command ≡ (row q).command ∷ []) × (stuff (sub_bytes (row q).sub) ≡ sub_bytes (row q).sub)
+unfolding row stuff_byte stuff
 plain GetSetpoint = (refl, refl)
 plain (SetSetpoint x) = (refl, refl)
 plain MeasuredValue = (refl, refl)
@@ -40,17 +41,27 @@ plain GetBaud = (refl, refl)
 plain (SetBaud n) = (refl, refl)
 plain ProductType = (refl, refl)
 
--- the parts of a row that were looked up: what the writer asks of them, and the body that they make
-module _ (q : Request) {command s count size : ℕ} (e : command ≡ (row q).command) (f : s ≡ sum (sub_bytes (row q).sub))
-    (g : count ≡ length (sub_bytes (row q).sub)) (h : size ≡ length (value_bytes (row q).value)) where
-  pub parts_allowed : (count ≤ 1) × Sized size × (sum (take count (s ∷ [])) ≡ s) × (stuff_byte command ≡ command ∷ []) × (stuff_byte s ≡ s ∷ [])
-  parts_allowed =
-      rw (e, f, g, h)
-      (sub_short (row q).sub, value_sized (row q).value, ap sum (sub_taken (row q).sub), (plain q).0, (plain q).1)
+pub form_plain : (place : ℕ) {command : ℕ} {sub : Option ℕ} → command ≡ (row (request_at place 0)).command → sub ≡ (row (request_at place 0)).sub
+    → (stuff_byte command ≡ command ∷ []) × (stuff (sub_bytes sub) ≡ sub_bytes sub)
+form_plain place e f = rw (e, f) (plain (request_at place 0))
 
-  pub parts-body : (address n : ℕ) → body_with address command (take count (s ∷ []) ++ big_endian size n)
-      ≡ body_with address (row q).command (sub_bytes (row q).sub ++ big_endian (length (value_bytes (row q).value)) n)
-  parts-body address n = rw (e, f, g, h, sub_taken (row q).sub)
+-- a form is that of a request
+abbrev pub IsForm : Form → (ℕ → Request) → Type 0
+IsForm f q = (f.0 ≡ (row (q 0)).command) × (f.1 ≡ (row (q 0)).sub) × (bytes_of f.2 ≡ length (value_bytes (row (q 0)).value))
+
+-- and forms are those of requests, one by one
+abbrev pub AreForms : List Form → List (ℕ → Request) → Type 0
+AreForms [] [] = Unit {0}
+AreForms [] (q ∷ qs) = ⊥
+AreForms (f ∷ fs) [] = ⊥
+AreForms (f ∷ fs) (q ∷ qs) = IsForm f q × (AreForms fs qs)
+
+pub form_there : (fs : List Form) (qs : List (ℕ → Request)) → AreForms fs qs → (d : Form) (last : ℕ → Request) (k : ℕ) → k < length fs
+    → IsForm (get_or fs k d) (get_or qs k last)
+form_there [] qs h d last k l = absurd (omega arith)
+form_there (f ∷ fs) [] h d last k l = absurd h
+form_there (f ∷ fs) (q ∷ qs) h d last zero l = h.0
+form_there (f ∷ fs) (q ∷ qs) h d last (suc k) l = form_there fs qs h.1 d last k (omega arith)
 
 -- the bytes of a value are those of its number
 value_bytes_lem : (v : Value) → value_bytes v ≡ big_endian (length (value_bytes v)) (value_in v)

@@ -2,7 +2,6 @@
 use mathlib.Core.Path.{◌≡◌, refl, sym, ap, subst, ◌∙◌}
 use mathlib.Core.Bool.{Bool, true, false, cond, not, ◌&&◌, true≢false}
 use mathlib.Core.List.{List, [], ◌∷◌, ◌++◌}
-use mathlib.Core.Option.{Option, none, some}
 use Prim.Native.Nat.{ℕ, zero, suc, ◌-◌, ◌^◌, ◌≤◌, ◌<◌}
 use native.Mathlib.Omega.{arith}
 use lib.Dec.{T, eqb}
@@ -27,17 +26,15 @@ use Rattle.sfc6.specs.declared.Request.{Request}
 use Rattle.sfc6.specs.declared.Request.TheVariants.{ProductType}
 use Rattle.sfc6.specs.declared.Value.{Value}
 use Rattle.sfc6.specs.declared.Value.TheVariants as value
-use Rattle.sfc6.specs.declared.Subcommand.{Subcommand}
-use Rattle.sfc6.specs.declared.Subcommand.TheVariants as sub
+use Rattle.std.specs.Prelude.{Option, Some, None}
 use Rattle.sfc6.specs.declared.Row.{Row}
 use Rattle.sfc6.specs.Commands.{row, table, request_at, finite, out_of_range, bad_float}
-use Rattle.sfc6.specs.Requests.{request_checks, check_request, sub_bytes, value_bytes, data_of, body_of, write_request}
+use Rattle.sfc6.specs.Requests.{body_at, request_checks, check_request, sub_bytes, value_bytes, data_of, body_of, write_request}
 use Rattle.sfc6.specs.Reading.{starts_with, named, fitting, first, carried, found_or, typed, payload_of, and_then, read_request}
 use Rattle.sfc6.specs.ReadBack.{Received}
 use Rattle.sfc6.proofs.Order.{never, serves_it, and_then_served}
 use Rattle.sfc6.proofs.Checks.{passed_request}
 use Rattle.sfc6.proofs.Reading.{first_passes, both, fits_length}
-use Rattle.sfc6.proofs.Laid.{body_at}
 use Rattle.sfc6.proofs.Written.{to_write}
 
 -- a float's bits that are finite come back
@@ -98,34 +95,34 @@ each_at (q ∷ requests) (this also es) (suc k) other h = each_at requests es k 
 pub carries_at : (place : ℕ) → place ≤ 20 → Carries (request_at place)
 carries_at place h = each_at table each place (λ n. ProductType) (omega arith)
 
-found_carries : (test : Row → Bool) (requests : List (ℕ → Request)) → Each requests → (request : ℕ → Request) → first test requests ≡ some request
+found_carries : (test : Row → Bool) (requests : List (ℕ → Request)) → Each requests → (request : ℕ → Request) → first test requests ≡ Some request
     → Carries request
 unfolding first
 found_carries test [] done request h = absurd (let z : ◌≡◌ {A = ℕ} 0 1 = cc in omega arith)
 found_carries test (q ∷ requests) (this also es) request h = go (test (row (q 0))) (found_carries test requests es request) h
   where
-    go : (t : Bool) → (first test requests ≡ some request → Carries request) → cond t (some q) (first test requests) ≡ some request → Carries request
+    go : (t : Bool) → (first test requests ≡ Some request → Carries request) → cond t (Some q) (first test requests) ≡ Some request → Carries request
     go true on h = let f : q ≡ request = cc in subst Carries f this
     go false on h = on h
 
 -- data that are read: where the request stands in the table
 typed-found : (command : ℕ) (payload : List ℕ) (request : Request) → typed command payload ≡ served request
-    → (f : ℕ → Request) × (first (fitting command payload) table ≡ some f) × (f (carried (row (f 0)) payload) ≡ request)
+    → (f : ℕ → Request) × (first (fitting command payload) table ≡ Some f) × (f (carried (row (f 0)) payload) ≡ request)
 unfolding typed
 typed-found command payload request = go (first (named command payload) table) (first (fitting command payload) table) refl
   where
     go : (x y : Option (ℕ → Request)) → first (fitting command payload) table ≡ y
         → found_or 11 x (λ f. found_or 12 y (λ f. served (f (carried (row (f 0)) payload)))) ≡ served request
-        → (f : ℕ → Request) × (first (fitting command payload) table ≡ some f) × (f (carried (row (f 0)) payload) ≡ request)
-    go none y e h = never (sym h)
-    go (some g) none e h = never (sym h)
-    go (some g) (some f) e h = (f, e, cc)
+        → (f : ℕ → Request) × (first (fitting command payload) table ≡ Some f) × (f (carried (row (f 0)) payload) ≡ request)
+    go None y e h = never (sym h)
+    go (Some g) None e h = never (sym h)
+    go (Some g) (Some f) e h = (f, e, cc)
 
-starts_split : (s : Subcommand) (payload : List ℕ) → starts_with s payload ≡ true → sub_bytes s ++ drop (length (sub_bytes s)) payload ≡ payload
+starts_split : (s : Option ℕ) (payload : List ℕ) → starts_with s payload ≡ true → sub_bytes s ++ drop (length (sub_bytes s)) payload ≡ payload
 unfolding starts_with
-starts_split sub.Missing payload h = refl
-starts_split (sub.Byte s) [] h = absurd (true≢false (sym h))
-starts_split (sub.Byte s) (b ∷ payload) h = ap (λ (x : ℕ). x ∷ payload) (sym (eqb-true b s h))
+starts_split None payload h = refl
+starts_split (Some s) [] h = absurd (true≢false (sym h))
+starts_split (Some s) (b ∷ payload) h = ap (λ (x : ℕ). x ∷ payload) (sym (eqb-true b s h))
 
 -- the number in a value's bytes is that of a u32
 value_fits : (v : Value) (n : ℕ) → n < 256 ^ length (value_bytes v) → n < 2 ^ 32

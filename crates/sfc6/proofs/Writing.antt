@@ -1,93 +1,69 @@
 -- Writing a request: each answer of the definition, from the tests that lead to it. Assumes nothing.
-use mathlib.Core.Path.{◌≡◌, refl, sym, ap, subst, ◌∙◌}
-use mathlib.Core.Bool.{Bool, true, false, cond, not}
+use mathlib.Core.Path.{◌≡◌, refl, sym, ap, ◌∙◌}
+use mathlib.Core.Bool.{Bool, true, false, cond}
 use mathlib.Core.List.{List, [], ◌++◌, append-nil}
-use Prim.Native.Nat.{ℕ, ◌-◌, ◌^◌, ◌≤◌, ◌<◌, min}
+use Prim.Native.Nat.{ℕ, ◌-◌, ◌≤◌, ◌<◌, min}
+use native.Mathlib.Nat.{zero-add}
 use native.Mathlib.Omega.{arith}
-use borrow.Author.Tests.{ltb-true, ltb-false, ne_eqb}
+use borrow.Author.Tests.{ltb-true, ltb-false}
 use lib.Dec.{ltb}
-use lib.Ieee.{binary32, to_bits, of_bits}
 use lib.ListN.{length, take, drop, length-drop, drop_of_length-le}
-use lib.Seq.{take_all, take-length, drop-length}
+use lib.Seq.{length-take-le, take_all, take-length, drop-length}
 use Rattle.refusal.specs.declared.Refusal.{Refusal}
-use Rattle.refusal.specs.declared.Refusal.TheVariants.{BadFloat}
-use Rattle.refusal.specs.Refusals.{Answered, number, served, refused, paper}
+use Rattle.refusal.specs.Refusals.{Answered, number, served, refused, paper, answered_as}
 use Rattle.refusal.specs.Room.{overlay, emit}
 use Rattle.refusal.proofs.Room.{take-overlay, emit_served, emit_refused}
-use Rattle.shdlc.specs.declared.Checked.{Checked}
-use Rattle.shdlc.specs.declared.Checked.TheVariants.{Good, Refused}
+use Rattle.std.specs.Prelude.{Result, Ok, Err}
 use Rattle.shdlc.specs.Frame.{frame_of, write_frame}
-use Rattle.shdlc.specs.Paper.{written_of}
-use Rattle.shdlc.proofs.Frame.{frame-length}
 use Rattle.sfc6.specs.declared.Request.{Request}
-use Rattle.sfc6.specs.declared.Request.TheVariants.{ProductType}
-use Rattle.sfc6.specs.Commands.{row, request_at, finite}
+use Rattle.sfc6.specs.Commands.{row}
 use Rattle.sfc6.specs.Requests.{request_checks, check_request, body_of, frame_to_write, write_request}
 use Rattle.sfc6.specs.Rounds.{from}
-use Rattle.sfc6.specs.Paper.{paper_passed}
-use Rattle.sfc6.proofs.Floats.{nan_or_not}
-use Rattle.sfc6.proofs.Table.{request-last}
 use Rattle.sfc6.proofs.Order.{never, first_refuses, then_more}
 
 -- what the request's own checks answer is what the writer's do
-pub frame_by_check : (address : ℕ) (request : Request) (c : Checked) → paper_passed (address, request) c ≡ check_request address request
-    → paper_passed (frame_of (body_of address (row request))) c ≡ frame_to_write address request
+pub frame_by_check : (address : ℕ) (request : Request) (c : Result (Unit {0}) Refusal) → answered_as (λ _. (address, request)) c ≡ check_request address request
+    → answered_as (λ _. frame_of (body_of address (row request))) c ≡ frame_to_write address request
 unfolding check_request frame_to_write
-frame_by_check address request Good is =
+frame_by_check address request (Ok u) is =
     sym (then_more (address, request) (frame_of (body_of address (row request))) [] (request_checks address request) (sym is))
-frame_by_check address request (Refused why) is =
+frame_by_check address request (Err why) is =
     sym (first_refuses (address, request) (frame_of (body_of address (row request))) [] (request_checks address request) (sym is))
-
--- of the request at a place: what a check answers is what the definition says of it
-module _ (address : ℕ) where
-  abbrev pub Says : Request → Checked → Type 0
-  Says request c = paper_passed (address, request) c ≡ check_request address request
-
-  pub says_known : (place k n : ℕ) (c : Checked) → place ≡ k → Says (request_at k n) c → Says (request_at place n) c
-  says_known place k n c e h = subst (λ (m : ℕ). Says (request_at m n) c) (sym e) h
-
-  pub says_last : (place n : ℕ) (c : Checked) → 20 ≤ place → Says ProductType c → Says (request_at place n) c
-  says_last place n c past h = subst (λ (q : Request). Says q c) (request-last place n past) h
-
--- and of a float by its bits
-pub float_checked : {A : Type 0} (a : A) (n : ℕ) {c : Checked} → n < 2 ^ 32 → c ≡ cond (finite n) Good (Refused BadFloat)
-    → paper_passed a c ≡ cond (not (finite (to_bits binary32 (of_bits binary32 n)))) (refused (number 13)) (served a)
-float_checked {A} a n {c} h e = rw (nan_or_not n h, e) (go (finite n))
-  where
-    go : (t : Bool) → paper_passed a (cond t Good (Refused BadFloat)) ≡ cond (not t) (refused (number 13)) (served a)
-    go true = refl
-    go false = refl
 
 -- a frame that stands at the start of a room that holds it, one that is copied there, and one that does not fit
 module _ (body room : List ℕ) (n : ℕ) (long : n ≡ length (frame_of body)) where
   pub frame_stands : (after : List ℕ) → n ≤ length room → after ≡ overlay room 0 (frame_of body)
-      → ◌≡◌ {A = Answered ℕ × List ℕ} (written_of n, after) (write_frame body room)
-  unfolding written_of
+      → ◌≡◌ {A = Answered ℕ × List ℕ} (served n, after) (write_frame body room)
   frame_stands after h e =
-      let some : (n ≡ 0 → ⊥) = λ z. omega (arith, frame-length body) in
       let fits : length (frame_of body) ≤ length room = omega arith in
-      rw (ne_eqb n 0 some, emit_served (frame_of body) room fits, long, e)
+      rw (emit_served (frame_of body) room fits, long, e)
 
   pub frame_copied : (zeros spare after : List ℕ) → n ≤ length room → spare ≡ overlay zeros 0 (frame_of body)
-      → after ≡ overlay room 0 (take n spare) → ◌≡◌ {A = Answered ℕ × List ℕ} (written_of n, after) (write_frame body room)
+      → after ≡ overlay room 0 (take n spare) → ◌≡◌ {A = Answered ℕ × List ℕ} (served n, after) (write_frame body room)
   frame_copied zeros spare after h e f = frame_stands after h (f ∙ rw (e, long, take-overlay))
 
-  pub frame_long : length room < n → ◌≡◌ {A = Answered ℕ × List ℕ} (written_of 0, room) (write_frame body room)
-  unfolding written_of
+  pub frame_long : length room < n → ◌≡◌ {A = Answered ℕ × List ℕ} (refused (number 1), room) (write_frame body room)
   frame_long h =
       let short : length room < length (frame_of body) = omega arith in
       rw (emit_refused (frame_of body) room short)
 
+-- bytes copied over the start of a room
+pub copied : (room bytes : List ℕ) (n : ℕ) {after : List ℕ} → n ≤ length room → length after ≡ length (take n room) → after ≡ bytes
+    → after ++ drop n room ≡ overlay room 0 bytes
+unfolding overlay
+copied room bytes n {after = after} h l e =
+    let long : n ≡ length bytes = sym (length-take-le n room h) ∙ sym l ∙ ap length e in
+    simp (long, e, zero-add)
+
 -- a frame into a room
-module _ (address : ℕ) (request : Request) (room frame : List ℕ) (c : Checked) (is : paper_passed frame c ≡ frame_to_write address request) where
-  pub write_refused : {why : Refusal} → c ≡ Refused why → (refused (paper why), room) ≡ write_request address request room
+module _ (address : ℕ) (request : Request) (room frame : List ℕ) (c : Result (Unit {0}) Refusal) (is : answered_as (λ _. frame) c ≡ frame_to_write address request) where
+  pub write_refused : {why : Refusal} → c ≡ Err why → (refused (paper why), room) ≡ write_request address request room
   unfolding write_request
   write_refused e = rw (← is, e)
 
-  pub write_laid : c ≡ Good → (n : ℕ) {o : Answered ℕ} {w : List ℕ} → o ≡ written_of n → (written_of n, w) ≡ emit frame room
-      → (o, w) ≡ write_request address request room
+  pub write_laid : c ≡ Ok tt → {o : Answered ℕ × List ℕ} → o ≡ emit frame room → o ≡ write_request address request room
   unfolding write_request
-  write_laid good n e f = rw (← is, good, e) f
+  write_laid good f = rw (← is, good) f
 
 -- bytes that were laid stand at the room's start, and fit
 pub emit-laid : (bytes room : List ℕ) (n : ℕ) → (emit bytes room).0 ≡ served n

@@ -1,10 +1,9 @@
 -- 01, Commands of the SFC6 family: the table, and the rules of the values that stand in it.
-use Rattle.std.specs.Prelude.{ℕ, ◌/◌, ◌%◌, Bool, false, not, ◌||◌, List, [], ◌∷◌, ltb, eqb, get_or}
+use Rattle.std.specs.Prelude.{ℕ, ◌/◌, ◌%◌, Bool, false, not, ◌||◌, List, [], ◌∷◌, ltb, eqb, get_or, Some, None}
 use Rattle.std.specs.Float.{binary32}
 use Rattle.std.specs.Float.Ieee.{to_bits, of_bits}
 use Rattle.sfc6.specs.declared.Request.{Request}
 use Rattle.sfc6.specs.declared.Request.TheVariants.{GetSetpoint, SetSetpoint, MeasuredValue, GetGain, SetGain, GetInitStep, SetInitStep, RawFlow, RawConductivity, Temperature, NumberOfCalibrations, Validity, FullScale, GetCalibration, SetCalibration, VolatileCalibration, GetAddress, SetAddress, GetBaud, SetBaud, ProductType}
-use Rattle.sfc6.specs.declared.Subcommand.TheVariants as sub
 use Rattle.sfc6.specs.declared.Value.{Value}
 use Rattle.sfc6.specs.declared.Value.TheVariants.{Nothing, Float, U32, Address, Baud}
 use Rattle.sfc6.specs.declared.Answer.{Answer}
@@ -13,10 +12,10 @@ use Rattle.sfc6.specs.declared.Row.{Row}
 
 -- "Cmd | Sub | Request after sub | Reply": a row with a subcommand, and one whose Sub is "-"
 abbrev pub with_sub : ℕ → ℕ → Value → Answer → Row
-with_sub command s value answer = record { command = command; sub = sub.Byte s; value = value; answer = answer }
+with_sub command s value answer = record { command = command; sub = Some s; value = value; answer = answer }
 
 abbrev pub without_sub : ℕ → Value → Answer → Row
-without_sub command value answer = record { command = command; sub = sub.Missing; value = value; answer = answer }
+without_sub command value answer = record { command = command; sub = None; value = value; answer = answer }
 
 -- the table, in its order, the get before the set
 unfoldable pub row : Request → Row

@@ -4,4 +4,3 @@ pub mod Requests
 pub mod Rounds
 pub mod Reading
 pub mod ReadBack
-pub mod Paper

@@ -1,5 +1,5 @@
 -- A request: its own refusals, its bytes on the wire, and its writer. 01, Commands of the SFC6 family and Refusal numbers.
-use Rattle.std.specs.Prelude.{ℕ, Bool, cond, ◌&&◌, List, [], ◌∷◌, ◌++◌, ltb, eqb, length}
+use Rattle.std.specs.Prelude.{ℕ, Bool, cond, ◌&&◌, List, [], ◌∷◌, ◌++◌, ltb, eqb, length, Option, Some, None}
 use Rattle.std.specs.Float.{binary32}
 use Rattle.std.specs.Float.Ieee.{to_bits}
 use Rattle.refusal.specs.Refusals.{Numbered, number, Answered, refused, in_order}
@@ -7,8 +7,8 @@ use Rattle.refusal.specs.Room.{lay}
 use Rattle.shdlc.specs.Frame.{frame_of}
 use Rattle.payload.specs.Field.{big_endian}
 use Rattle.sfc6.specs.declared.Request.{Request}
-use Rattle.sfc6.specs.declared.Subcommand.{Subcommand}
-use Rattle.sfc6.specs.declared.Subcommand.TheVariants as sub
+use Rattle.sfc6.specs.declared.form.Size.{Size}
+use Rattle.sfc6.specs.declared.form.Size.TheVariants as size
 use Rattle.sfc6.specs.declared.Row.{Row}
 use Rattle.sfc6.specs.declared.Value.{Value}
 use Rattle.sfc6.specs.declared.Value.TheVariants.{Nothing, Float, U32, Address, Baud}
@@ -31,9 +31,9 @@ unfoldable pub numbered : ℕ → ℕ → Answered Request
 numbered place n = in_order ((ltb 20 place, number 11) ∷ (eqb place 17 && ltb 255 n, number 12) ∷ []) (request_at place n)
 
 -- "Sub is the first data byte."
-abbrev pub sub_bytes : Subcommand → List ℕ
-sub_bytes sub.Missing = []
-sub_bytes (sub.Byte s) = s ∷ []
+abbrev pub sub_bytes : Option ℕ → List ℕ
+sub_bytes None = []
+sub_bytes (Some s) = s ∷ []
 
 -- "Numbers are big-endian." A float goes by its bits.
 abbrev pub value_bytes : Value → List ℕ
@@ -43,6 +43,12 @@ value_bytes (U32 n) = big_endian 4 n
 value_bytes (Address a) = big_endian 1 a
 value_bytes (Baud rate) = big_endian 4 rate
 
+-- the bytes of the number that a request carries
+abbrev pub bytes_of : Size → ℕ
+bytes_of size.Nothing = 0
+bytes_of size.Byte = 1
+bytes_of size.Four = 4
+
 -- the data of a request, by its row
 unfoldable pub data_of : Row → List ℕ
 data_of r = sub_bytes r.sub ++ value_bytes r.value
@@ -50,6 +56,12 @@ data_of r = sub_bytes r.sub ++ value_bytes r.value
 -- 01, Frames on the wire: "address, command, L, L data bytes", the checksum aside
 abbrev pub body_with : ℕ → ℕ → List ℕ → List ℕ
 body_with address command bytes = address ∷ command ∷ length bytes ∷ bytes
+
+-- the body of the request at a place of the table, with a number in so many bytes as its value takes
+abbrev pub body_at : ℕ → ℕ → ℕ → List ℕ
+body_at address place n =
+    body_with address (row (request_at place 0)).command
+    (sub_bytes (row (request_at place 0)).sub ++ big_endian (length (value_bytes (row (request_at place 0)).value)) n)
 
 unfoldable pub body_of : ℕ → Row → List ℕ
 body_of address r = body_with address r.command (data_of r)

@@ -2,8 +2,9 @@
 -- into the room left in the middle of the buffer. Each frame is one call. If it does not fit, or its starting place is past the
 -- buffer, 1 is given with nothing changed by that call; earlier frames stand."
 use Rattle.std.specs.Prelude.{ℕ, ◌+◌, List, [], ◌∷◌, ◌++◌, map, take, drop}
-use Rattle.refusal.specs.Refusals.{Answered, served, refused}
+use Rattle.refusal.specs.Refusals.{Answered, served, refused, answered}
 use Rattle.sfc6.specs.declared.Request.{Request}
+use Rattle.sfc6.specs.declared.Round.{Round}
 use Rattle.sfc6.specs.Requests.{write_request, write_numbered}
 
 -- one call: a writer into the room from the starting place on; what stands before it stays. Past the buffer there is no room.
@@ -20,6 +21,10 @@ append_numbered buffer start address place n = from buffer start (write_numbered
 -- What a polling round answers: how many frames stand, the place after them, and the refusal that ended it, if one did.
 abbrev pub Laid : Type 0
 Laid = ℕ × ℕ × Answered (Unit {0})
+
+-- the same, as the code gives it
+abbrev pub laid_by : Round → Laid
+laid_by r = (r.frames, r.end, answered r.outcome)
 
 -- after one call: the rest of the round goes on from the end of its frame, or the round is over
 abbrev pub round_on : (ℕ → ℕ → List ℕ → Laid × List ℕ) → ℕ → ℕ → Answered ℕ → List ℕ → Laid × List ℕ

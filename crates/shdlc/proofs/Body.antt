@@ -1,24 +1,20 @@
 -- Laws of the checks of a body. Assumes nothing.
 use mathlib.Core.Path.{◌≡◌, refl, sym, ap, ◌∙◌}
-use mathlib.Core.Bool.{Bool, true, false, cond, not}
+use mathlib.Core.Bool.{Bool, true, false, not}
 use mathlib.Core.List.{List, [], ◌∷◌, ◌++◌, append_assoc}
 use Prim.Native.Nat.{ℕ, suc, ◌+◌, ◌-◌, ◌%◌, ◌≤◌, ◌<◌}
 use native.Mathlib.Omega.{arith}
 use lib.Dec.{ltb, eqb}
-use borrow.Author.Tests.{lt-ltb, le-ltb, eq-eqb, ltb-false, eqb-true}
+use borrow.Author.Tests.{lt-ltb, le-ltb, eq-eqb, ne_eqb, ltb-false, eqb-true}
 use lib.ListN.{length, get_or, take, length-append}
 use lib.Seq.{take_at, get_or_at, take_all, take-suc}
 use Rattle.refusal.specs.Refusals.{number, served, refused, in_order}
-use Rattle.refusal.specs.declared.Refusal.TheVariants.{WrongLength, WrongChecksum}
 use Rattle.refusal.proofs.Order.{passed}
-use Rattle.shdlc.specs.declared.Checked.{Checked}
-use Rattle.shdlc.specs.declared.Checked.TheVariants.{Good, Refused}
 use Rattle.shdlc.specs.declared.Kind.{Kind}
 use Rattle.shdlc.specs.declared.Kind.TheVariants.{Request, Reply}
 use Rattle.shdlc.specs.Checksum.{checksum_of}
 use Rattle.shdlc.specs.Body.{shortest, longest, length_place, check_body}
 use Rattle.shdlc.specs.Frame.{with_checksum}
-use Rattle.shdlc.specs.Paper.{paper_checked}
 
 -- a sum modulo 256, taken byte by byte
 pub sum_step : (s b t : ℕ) → ((s + b) % 256 + t) % 256 ≡ (s + (b + t)) % 256
@@ -45,20 +41,14 @@ module _ (kind : Kind) (body : List ℕ) where
 
     module _ (least : shortest kind ≤ length body) where
       -- L, then the checksum
-      pub body_judged : (l size sum : ℕ) (answer : Checked) → l ≡ get_or body (length_place kind) 0 → size ≡ length body - shortest kind
-          → sum ≡ checksum_of (take (length body - 1) body)
-          → answer ≡ cond (not (eqb l size)) (Refused WrongLength) (cond (not (eqb (get_or body (length body - 1) 0) sum)) (Refused WrongChecksum) Good)
-          → paper_checked body answer ≡ check_body kind body
+      pub body_wrong_length : (get_or body (length_place kind) 0 ≡ length body - shortest kind → ⊥) → check_body kind body ≡ refused (number 7)
       unfolding check_body
-      body_judged l size sum answer e f g h =
-          rw (h, e, f, g, le-ltb _ _ most, le-ltb _ _ least)
-          (go (not (eqb (get_or body (length_place kind) 0) (length body - shortest kind))) (not (eqb (get_or body (length body - 1) 0) (checksum_of (take (length body - 1) body)))))
-        where
-          go : (x y : Bool) → paper_checked body (cond x (Refused WrongLength) (cond y (Refused WrongChecksum) Good))
-              ≡ cond x (refused (number 7)) (cond y (refused (number 8)) (served body))
-          go true y = refl
-          go false true = refl
-          go false false = refl
+      body_wrong_length l = rw (le-ltb _ _ most, le-ltb _ _ least, ne_eqb _ _ l)
+
+      pub body_wrong_sum : get_or body (length_place kind) 0 ≡ length body - shortest kind
+          → (get_or body (length body - 1) 0 ≡ checksum_of (take (length body - 1) body) → ⊥) → check_body kind body ≡ refused (number 8)
+      unfolding check_body
+      body_wrong_sum l h = rw (le-ltb _ _ most, le-ltb _ _ least, eq-eqb _ _ l, ne_eqb _ _ h)
 
       pub body_good : get_or body (length_place kind) 0 ≡ length body - shortest kind
           → get_or body (length body - 1) 0 ≡ checksum_of (take (length body - 1) body) → check_body kind body ≡ served body

@@ -1,20 +1,18 @@
 -- Laws of a frame: its parts, its length, and that it is laid down part by part. Assumes nothing.
 use mathlib.Core.Path.{◌≡◌, refl, sym, ap, ◌∙◌}
-use mathlib.Core.Bool.{Bool, true, false, cond, not}
+use mathlib.Core.Bool.{Bool, true, false, not}
 use mathlib.Core.List.{List, [], ◌∷◌, ◌++◌, append_assoc}
 use Prim.Native.Nat.{ℕ, ◌+◌, ◌-◌, ◌/◌, ◌%◌, ◌≤◌, ◌<◌}
 use native.Mathlib.Omega.{arith}
-use lib.Dec.{ltb, eqb}
-use borrow.Author.Tests.{ne_eqb, lt-ltb, le-ltb, ltb-true, ltb-false, not-false}
-use lib.ListN.{length, set, length-set, length-append}
+use lib.Dec.{ltb}
+use borrow.Author.Tests.{lt-ltb, le-ltb, ltb-true, ltb-false}
+use lib.ListN.{length, set, length-append}
 use Rattle.refusal.specs.Refusals.{number, Answered, served, refused}
 use Rattle.refusal.specs.Room.{overlay}
-use Rattle.refusal.proofs.Order.{refused_not_served}
 use Rattle.refusal.proofs.Room.{write_then, set-overlay, emit_served, emit_refused}
 use Rattle.shdlc.specs.Checksum.{sum, checksum_of}
 use Rattle.shdlc.specs.Stuffing.{stuff_byte, stuff}
 use Rattle.shdlc.specs.Frame.{put_at, frame_of, write_frame}
-use Rattle.shdlc.specs.Paper.{written_of}
 use Rattle.shdlc.proofs.Stuffing.{stuff-append, stuff-one, stuff_short, byte_short}
 
 pub frame-parts : (body : List ℕ) → frame_of body ≡ (((0x7E ∷ []) ++ stuff body) ++ stuff_byte (checksum_of body)) ++ (0x7E ∷ [])
@@ -27,22 +25,10 @@ frame-length body =
     let b = length-append (stuff body) (stuff_byte (checksum_of body)) in
     ap length (frame-parts body) ∙ omega arith
 
--- a length that stands for an answer that serves
-pub written_served : (n m : ℕ) → written_of n ≡ served m → n ≡ m
-unfolding written_of
-written_served n m = go (eqb n 0)
-  where
-    go : (t : Bool) → cond t (refused (number 1)) (served n) ≡ served m → n ≡ m
-    go true h = absurd (refused_not_served h)
-    go false h = cc
-
 -- a frame that fits, laid down part by part
 module _ (body room : List ℕ) (fits : length (frame_of body) ≤ length room) where
   pub first_fits : 0 < length room
   first_fits = omega (arith, frame-length body)
-
-  pub body_fits : 1 + length (stuff body) ≤ length (set room 0 0x7E)
-  body_fits = rw (length-set room 0 0x7E) (omega (arith, frame-length body))
 
   module _ (after : List ℕ) (place total : ℕ) (sum_is_lem : 255 - total ≡ checksum_of body)
       (laid : (place ≡ 1 + length (stuff body)) × (after ≡ overlay (set room 0 0x7E) 1 (stuff body))) where
@@ -51,8 +37,7 @@ module _ (body room : List ℕ) (fits : length (frame_of body) ≤ length room) 
 
     pub frame-laid : (end : List ℕ) (n : ℕ)
         → (n ≡ place + length (stuff_byte (255 - total) ++ (0x7E ∷ []))) × (end ≡ overlay after place (stuff_byte (255 - total) ++ (0x7E ∷ [])))
-        → (written_of n, end) ≡ write_frame body room
-    unfolding written_of
+        → (served n, end) ≡ write_frame body room
     frame-laid end n e =
         let open₁ = set-overlay room 0 0x7E first_fits in
         let in₁ : 0 ≤ length room = omega arith in
@@ -62,8 +47,7 @@ module _ (body room : List ℕ) (fits : length (frame_of body) ≤ length room) 
         rw sum_is_lem (sym (append_assoc ((0x7E ∷ []) ++ stuff body) (stuff_byte (checksum_of body)) (0x7E ∷ [])) ∙ sym (frame-parts body)) in
         let same = ap length whole in
         let long : n ≡ length (frame_of body) = omega (arith, two.0) in
-        let some : (n ≡ 0 → ⊥) = λ z. omega (arith, frame-length body) in
-        rw (ne_eqb _ _ some) (rw (emit_served (frame_of body) room fits) (rw (← long, ← whole, two.1)))
+        rw (emit_served (frame_of body) room fits) (rw (← long, ← whole, two.1))
 
 pub sum-append : (xs ys : List ℕ) → sum (xs ++ ys) ≡ sum xs + sum ys
 unfolding sum
@@ -130,34 +114,23 @@ not_true false e = refl
 pub roomy_holds : (half n : ℕ) (test : Bool) → test ≡ not (ltb half n) → test ≡ true → n ≤ half
 roomy_holds half n test e h = ltb-false _ _ (not_true _ (sym e ∙ h))
 
-pub not_roomy : (half n : ℕ) (test : Bool) → test ≡ not (ltb half n) → test ≡ false → half < n
-not_roomy half n test e h = ltb-true _ _ (not-false _ (sym e ∙ h))
-
 -- a test of the room, where it is too short and where it is not
 module _ (body room : List ℕ) {test : Bool} (e : test ≡ ltb (length room) (length (frame_of body))) where
-  pub no_frame : test ≡ true → (written_of 0, room) ≡ write_frame body room
-  unfolding written_of
+  pub no_frame : test ≡ true → (refused (number 1), room) ≡ write_frame body room
   no_frame h = sym (emit_refused (frame_of body) room (ltb-true _ _ (sym e ∙ h)))
 
   pub fits_room : test ≡ false → length (frame_of body) ≤ length room
   fits_room h = ltb-false _ _ (sym e ∙ h)
 
--- one byte at a place, where it fits and where it does not
+-- one byte at a place, where it fits
 module _ (room : List ℕ) (place b : ℕ) where
   pub put_served : place + length (stuff_byte b) ≤ length room → {n : ℕ} {after : List ℕ}
-      → (n ≡ place + length (stuff_byte b)) × (after ≡ overlay room place (stuff_byte b)) → (written_of n, after) ≡ put_at room place b
-  unfolding written_of
-  put_served h {n} e =
-      let some : (n ≡ 0 → ⊥) = λ z. omega (arith, (byte_short b).0, e.0) in
-      rw (ne_eqb _ _ some, le-ltb _ _ h, e.0, e.1)
+      → (n ≡ place + length (stuff_byte b)) × (after ≡ overlay room place (stuff_byte b)) → (served n, after) ≡ put_at room place b
+  put_served h e = rw (le-ltb _ _ h, e.0, e.1)
 
-  pub put_refused : length room < place + length (stuff_byte b) → (written_of 0, room) ≡ put_at room place b
-  unfolding written_of
-  put_refused h = rw (lt-ltb _ _ h)
-
-  -- and back: where it fits, what such a call did
-  pub put-done : place + length (stuff_byte b) ≤ length room → {n : ℕ} {after : List ℕ} → (written_of n, after) ≡ put_at room place b
-      → (n ≡ place + length (stuff_byte b)) × (after ≡ overlay room place (stuff_byte b))
-  put-done h {n} e =
+  -- and back: where it fits, what such a call answered and did
+  pub put-done : place + length (stuff_byte b) ≤ length room → {a : Answered ℕ} {after : List ℕ} → (a, after) ≡ put_at room place b
+      → (a ≡ served (place + length (stuff_byte b))) × (after ≡ overlay room place (stuff_byte b))
+  put-done h e =
       let f = rw (le-ltb _ _ h) at e in
-      (written_served n _ (ap (λ (x : Answered ℕ × List ℕ). x.0) f), ap (λ (x : Answered ℕ × List ℕ). x.1) f)
+      (ap (λ (x : Answered ℕ × List ℕ). x.0) f, ap (λ (x : Answered ℕ × List ℕ). x.1) f)

@@ -1,12 +1,14 @@
 -- Laws of a run of plain bytes, and the claim of specs/Runs.antt. Assumes nothing.
-use mathlib.Core.Path.{◌≡◌, refl, sym, ap, ◌∙◌}
+use mathlib.Core.Path.{◌≡◌, refl, sym, ap, subst, ◌∙◌}
 use mathlib.Core.Bool.{Bool, true, false, cond, true≢false}
 use mathlib.Core.List.{List, [], ◌∷◌, ◌++◌}
 use mathlib.Core.Option.{Option, none, some}
 use Prim.Native.Nat.{ℕ, zero, suc, ◌+◌, ◌≤◌, ◌<◌}
 use native.Mathlib.Omega.{arith}
 use lib.ListN.{length, get_or, take, drop, length-append, length-drop, take-append-drop}
-use lib.Seq.{drop-drop, take-take, length-take-le}
+use lib.Dec.{ltb}
+use borrow.Author.Tests.{ltb-true, ltb-false}
+use lib.Seq.{drop-drop, take-take, take_at, drop_at, length-take-le}
 use Rattle.refusal.specs.Room.{overlay}
 use Rattle.refusal.proofs.Room.{overlay-more, overlay-over, length-overlay}
 use Rattle.shdlc.specs.Stuffing.{escapes, right_of, sent, stuff_byte, stuff}
@@ -130,6 +132,28 @@ module _ (l : List ℕ) (n w : ℕ) (fits : n + w ≤ length l) where
       let within = run_broken (take w (drop n l)) h in
       let same = front-ended (drop n l) w left (omega (arith, block_size)) in
       omega (arith, block_size)
+
+-- the same of a block by itself, with what stands behind it
+module _ (l : List ℕ) (n w : ℕ) (block rest : List ℕ) (within : n ≤ length l) (parts : drop n l ≡ block ++ rest) (sized : length block ≡ w) where
+  pub block_fits : n + w ≤ length l
+  block_fits = omega (arith, length-drop n l, ap length parts, length-append block rest)
+
+  block_is : take w (drop n l) ≡ block
+  block_is = ap (take w) parts ∙ take_at block rest w sized
+
+  pub block_rest : rest ≡ drop (n + w) l
+  block_rest = sym (drop_at block rest w sized) ∙ ap (drop w) (sym parts) ∙ drop-drop w n l
+
+  module _ (test : Bool) (told : test ≡ ltb (length block) (length (stuff block))) where
+    pub block_passed : test ≡ false → n + w + run_of (drop (n + w) l) ≡ n + run_of (drop n l)
+    block_passed h =
+        let less = ltb-false (length block) _ (sym told ∙ h) in
+        block_plain l n w block_fits (subst (λ (b : List ℕ). length (stuff b) ≤ length b) (sym block_is) less)
+
+    pub block_ends : test ≡ true → run_of (drop n l) < w
+    block_ends h =
+        let more = ltb-true (length block) _ (sym told ∙ h) in
+        block_special l n w block_fits (subst (λ (b : List ℕ). length b < length (stuff b)) (sym block_is) more)
 
 -- stuffing a run is copying it
 run_copied : (bytes : List ℕ) → stuff (take (run_of bytes) bytes) ≡ take (run_of bytes) bytes

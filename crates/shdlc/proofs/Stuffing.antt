@@ -1,12 +1,12 @@
 -- Laws of stuffing: its length, its parts, what it leaves as it is, and that unstuffing gives back what was stuffed. Assumes nothing.
 use mathlib.Core.Path.{◌≡◌, refl, sym, ap, subst, ◌∙◌}
-use mathlib.Core.Bool.{Bool, true, false, cond}
+use mathlib.Core.Bool.{Bool, true, false, cond, ◌||◌}
 use mathlib.Core.List.{List, [], ◌∷◌, ◌++◌, append_assoc, append-nil}
 use mathlib.Core.Option.{Option, none, some}
 use Prim.Native.Nat.{ℕ, ◌+◌, ◌*◌, ◌≤◌, ◌<◌}
 use native.Mathlib.Omega.{arith}
 use lib.Bits.{bit_or, bit_xor}
-use lib.Dec.{eqb, ltb}
+use lib.Dec.{eqb}
 use borrow.Author.Tests.{eqb-true}
 use lib.ListN.{length, get_or, drop, length-append}
 use Rattle.refusal.specs.Refusals.{served}
@@ -21,6 +21,11 @@ module _ (b : ℕ) {test : Bool} (e : stuff_byte b ≡ cond test (0x7D ∷ bit_x
 
   pub sent_plain : test ≡ false → stuff_byte b ≡ b ∷ []
   sent_plain h = e ∙ ap (λ (t : Bool). cond t (0x7D ∷ bit_xor b 0x20 ∷ []) (b ∷ [])) h
+
+-- how many bytes it takes, from such a test
+pub byte_size : (b : ℕ) (test : Bool) → stuff_byte b ≡ cond test (0x7D ∷ bit_xor b 0x20 ∷ []) (b ∷ []) → length (stuff_byte b) ≡ cond {A = ℕ} test 2 1
+byte_size b true e = ap length e
+byte_size b false e = ap length e
 
 sent_short : (b : ℕ) (row : Option ℕ) → (1 ≤ length (sent b row)) × (length (sent b row) ≤ 2)
 sent_short b none = (omega arith, omega arith)
@@ -83,15 +88,19 @@ sent_as =
     each_byte (λ b. stuff_byte b ≡ cond (eqb (length (stuff_byte b)) 2) (0x7D ∷ bit_xor b 0x20 ∷ []) (b ∷ [])) refl refl refl refl
     (λ b p q r s. simp (p, q, r, s))
 
-pub sent_by : (b : ℕ) (test : Bool) → length (stuff_byte b) ≡ cond {A = ℕ} test 2 1 → stuff_byte b ≡ cond test (0x7D ∷ bit_xor b 0x20 ∷ []) (b ∷ [])
+sent_by : (b : ℕ) (test : Bool) → length (stuff_byte b) ≡ cond {A = ℕ} test 2 1 → stuff_byte b ≡ cond test (0x7D ∷ bit_xor b 0x20 ∷ []) (b ∷ [])
 sent_by b true e = sent_as b ∙ rw e
 sent_by b false e = sent_as b ∙ rw e
 
 -- the four bytes that are stuffed, as two ranges: 11 and 13 differ only in the bit 2
-pub size_by_ranges : (b : ℕ) → b < 256 → length (stuff_byte b) ≡ cond {A = ℕ} (eqb (bit_or b 2) 0x13) 2 (cond (ltb b 0x7D) 1 (cond (ltb b 0x7F) 2 1))
+size_by_ranges : (b : ℕ) → b < 256 → length (stuff_byte b) ≡ cond {A = ℕ} (eqb (bit_or b 2) 0x13 || (eqb b 0x7D || eqb b 0x7E)) 2 1
 unfolding stuff_byte
 size_by_ranges =
-    same_at 256 (λ b. length (stuff_byte b)) (λ b. cond {A = ℕ} (eqb (bit_or b 2) 0x13) 2 (cond (ltb b 0x7D) 1 (cond (ltb b 0x7F) 2 1))) refl
+    same_at 256 (λ b. length (stuff_byte b)) (λ b. cond {A = ℕ} (eqb (bit_or b 2) 0x13 || (eqb b 0x7D || eqb b 0x7E)) 2 1) refl
+
+pub sent_by_ranges : (b : ℕ) → b < 256
+    → stuff_byte b ≡ cond (eqb (bit_or b 2) 0x13 || (eqb b 0x7D || eqb b 0x7E)) (0x7D ∷ bit_xor b 0x20 ∷ []) (b ∷ [])
+sent_by_ranges b h = sent_by b (eqb (bit_or b 2) 0x13 || (eqb b 0x7D || eqb b 0x7E)) (size_by_ranges b h)
 
 -- a byte that is sent comes back, and the bytes after it stand where it ends
 byte_back : (place : ℕ) (bytes : List ℕ) (b : ℕ)

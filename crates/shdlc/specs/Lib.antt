@@ -6,6 +6,6 @@ pub mod Fault
 pub mod Body
 pub mod Frame
 pub mod Stream
-pub mod Paper
+pub mod Numbers
 pub mod ReadBack
 pub mod Noise

@@ -13,12 +13,11 @@ fn skip(bytes: &[u8], from: usize, width: usize) -> usize
     ensures { (result ≤ length bytes.now) × (result + run_of (drop result bytes.now) ≡ from + run_of (drop from bytes.now)) × (run_of (drop result bytes.now) < width) }
 {
     let mut n = from;
-    while width <= bytes.len() - n {
-        let end = n + width;
-        if has_escaped(&bytes[n..end]) {
+    for block in bytes[from..].chunks_exact(width) {
+        if has_escaped(block) {
             return n;
         }
-        n = end;
+        n += width;
     }
     n
 }
@@ -40,20 +39,9 @@ fn run_of(bytes: &[u8]) -> usize
     skip(bytes, eights, 1)
 }
 
-// Writes the bytes as they are from a place on.
-fn copy(out: &mut [u8], place: usize, bytes: &[u8])
-    requires { place + length bytes.now ≤ length out.old }
-    ensures { out.new ≡ overlay out.old place bytes.now }
-{
-    let mut i: usize = 0;
-    while i < bytes.len() {
-        out[place + i] = bytes[i];
-        i += 1;
-    }
-}
-
 // Writes the first n bytes from a place on, and answers how many it wrote. Fewer than 16 go as a block of 16 where there are so many: one
 // store, and the writer goes over the surplus with what follows.
+#[tactic(auto, unfolding(refusal::specs::Room::overlay))]
 fn copy_run(out: &mut [u8], place: usize, bytes: &[u8], n: usize) -> usize
     requires { (n ≤ length bytes.now) × (place + length bytes.now ≤ length out.old) }
     ensures { (n ≤ result) × (result ≤ length bytes.now) × (out.new ≡ overlay out.old place (take result bytes.now)) }
@@ -61,16 +49,17 @@ fn copy_run(out: &mut [u8], place: usize, bytes: &[u8], n: usize) -> usize
     if n < 16 {
         if 16 <= bytes.len() {
             let mut block = [0; 16];
-            copy(&mut block, 0, &bytes[..16]);
-            copy(out, place, &block);
+            block.copy_from_slice(&bytes[..16]);
+            out[place..place + 16].copy_from_slice(&block);
             return 16;
         }
     }
-    copy(out, place, &bytes[..n]);
+    out[place..place + n].copy_from_slice(&bytes[..n]);
     n
 }
 
-// Writes the bytes, stuffed, from a place on, and answers the place after them.
+// Writes the bytes, stuffed, from a place on, and answers the place after them. A turn of the loop passes a special byte, or the run that it
+// found, and no fixed number of bytes.
 pub(crate) fn put_runs(out: &mut [u8], place: usize, bytes: &[u8]) -> usize
     requires { place + length (stuff bytes.now) ≤ length out.old }
     ensures { (result ≡ place + length (stuff bytes.now)) × (out.new ≡ overlay out.old place (stuff bytes.now)) }

@@ -5,7 +5,7 @@ use mathlib.Core.List.{List, [], ◌∷◌, ◌++◌, append_assoc, reverse}
 use Prim.Native.Nat.{ℕ, ◌+◌, ◌-◌, ◌≤◌, ◌<◌}
 use native.Mathlib.Omega.{arith}
 use lib.Dec.{ltb}
-use lib.ListN.{length, take, drop, set, length-append, length-reverse}
+use lib.ListN.{length, take, drop, replicate, set, length-append, length-reverse}
 use lib.Seq.{take_at, take-take, length-take-le}
 use borrow.Author.Tests.{lt-ltb, le-ltb}
 use Rattle.refusal.specs.Refusals.{Numbered, number, Answered, served, refused}
@@ -201,11 +201,9 @@ module _ (buffer : List ℕ) where
   unfolding joined
   empty_refused h = sym (emit_refused (log_of []) buffer (omega (arith, length_log [])))
 
-  pub empty-laid : {one two : List ℕ} → 8 ≤ length buffer → one ≡ overlay buffer 0 (big_endian 4 0) → two ≡ overlay one 4 (big_endian 4 0)
-      → (served 8, two) ≡ emit (log_of []) buffer
-  unfolding log_of joined closing
-  empty-laid {one} {two} h e f =
-      let bytes : two ≡ overlay buffer 0 (big_endian 4 0 ++ big_endian 4 0) =
-      f ∙ ap (λ (l : List ℕ). overlay l 4 (big_endian 4 0)) e ∙ overlay_then buffer 0 (big_endian 4 0) (big_endian 4 0) 4 (omega arith) (omega (arith, length-big_endian 4 0)) in
+  pub empty-laid : {filled : List ℕ} → 8 ≤ length buffer → filled ≡ replicate (length (take 8 buffer)) 0 → (served 8, filled ++ drop 8 buffer) ≡ emit (log_of []) buffer
+  unfolding log_of joined closing big_endian overlay
+  empty-laid {filled} h e =
       let size : length (log_of []) ≡ 8 = length_log [] in
-      rw bytes (sym (emit_served (log_of []) buffer (omega (arith, size)) ∙ ap (λ (n : ℕ). (served n, overlay buffer 0 (big_endian 4 0 ++ big_endian 4 0))) size))
+      let zeros : filled ≡ log_of [] = e ∙ ap (λ (n : ℕ). replicate n 0) (length-take-le 8 buffer h) in
+      rw zeros (sym (emit_served (log_of []) buffer (omega (arith, size))))

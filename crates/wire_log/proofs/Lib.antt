@@ -13,7 +13,11 @@ pub mod Rows
 pub mod Parts
 pub mod Lines
 pub mod Windows
+pub mod Spelled
 pub mod Printed
 pub mod Logs
 pub mod Examples
 pub mod PartAfterPart
+pub mod Fronts
+pub mod Rests
+pub mod Written

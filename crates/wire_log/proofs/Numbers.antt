@@ -1,14 +1,16 @@
 -- A field that is there is read. Assumes nothing.
-use mathlib.Core.Path.{◌≡◌, sym, ap, ◌∙◌}
+use mathlib.Core.Path.{◌≡◌, refl, sym, ap, ◌∙◌}
 use mathlib.Core.List.{List}
 use Prim.Native.Nat.{ℕ, ◌+◌, ◌≤◌}
 use native.Mathlib.Omega.{arith}
 use lib.ListN.{length, get_or, take, drop}
-use Rattle.refusal.specs.Refusals.{Numbered, Answered, served, refused}
+use Rattle.refusal.specs.Refusals.{Numbered, Answered, served, refused, answered}
+use Rattle.refusal.specs.declared.Refusal.{Refusal}
 use Rattle.refusal.proofs.Order.{refused_not_served}
 use Rattle.payload.specs.Field.{big, taken_at}
 use Rattle.payload.proofs.At.{taken_served}
 use Rattle.payload.proofs.Big.{big-one, big_split}
+use Rattle.std.specs.Prelude.{Result, Ok, Err, IsOk}
 
 module _ (file : List ℕ) (place width : ℕ) (there : place + width ≤ length file) where
   taken : (taken_at file place width).0 ≡ served (big (take width (drop place file)))
@@ -19,6 +21,13 @@ module _ (file : List ℕ) (place width : ℕ) (there : place + width ≤ length
 
   pub number_not : {A : Type 0} {n : Numbered} → refused n ≡ (taken_at file place width).0 → A
   number_not e = absurd (refused_not_served (e ∙ taken))
+
+  pub value_there : (r : Result ℕ Refusal) → answered r ≡ (taken_at file place width).0 → IsOk r
+  value_there r e = go r (e ∙ taken)
+    where
+      go : (r : Result ℕ Refusal) → answered r ≡ served (big (take width (drop place file))) → IsOk r
+      go (Ok n) e = refl
+      go (Err why) e = absurd (refused_not_served e)
 
 -- a number of two bytes with nothing in the first
 pub low_byte : (file : List ℕ) (place next : ℕ) → next ≡ place + 1 → place + 2 ≤ length file → get_or file place 0 ≡ 0

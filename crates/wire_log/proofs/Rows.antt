@@ -58,14 +58,14 @@ module _ (rule : Rule) (file : List ℕ) where
   rows-over rows i n place h = let e : n - i ≡ 0 = omega arith in rw e (overlay_nothing rows (3 * i))
 
 -- as many as there are, or as fit
-take_to : (n k : ℕ) (l : List Row) → n ≡ min k (length l) → take n l ≡ take k l
+pub take_to : {A : Type 0} (n k : ℕ) (l : List A) → n ≡ min k (length l) → take n l ≡ take k l
 take_to zero zero [] e = refl
 take_to zero (suc k) [] e = refl
 take_to (suc n) k [] e = absurd (omega arith)
 take_to zero zero (x ∷ l) e = refl
 take_to zero (suc k) (x ∷ l) e = absurd (omega arith)
 take_to (suc n) zero (x ∷ l) e = absurd (omega arith)
-take_to (suc n) (suc k) (x ∷ l) e = ap (λ (z : List Row). x ∷ z) (take_to n k l (omega arith))
+take_to (suc n) (suc k) (x ∷ l) e = ap (λ (z : List _). x ∷ z) (take_to n k l (omega arith))
 
 -- rows in lent room
 module _ (rows : List Row) (room : List ℕ) (some : 0 < length rows) where

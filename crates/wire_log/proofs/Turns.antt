@@ -49,9 +49,6 @@ module _ (rule : Rule) (file : List ℕ) where
       go r (served older) = refl
       go r (refused n) = drop_none left
 
-  pub back-over : (left place : ℕ) → left ≤ 0 → before place ≡ drop left (before place)
-  back-over left place h = let e : left ≡ 0 = omega arith in rw e
-
   pub back_stopped : (left place : ℕ) {n : Numbered} → refused n ≡ found_in file place (ending_at rule file place) → before place ≡ drop left (before place)
   back_stopped left place h = rw (stopped place h) (sym (drop_none left))
 

@@ -1,15 +1,16 @@
 -- A text laid in lent room from a place of the text on, as much as fits: a full room, one text after another, and the loop that lays the
 -- bytes. Assumes nothing.
-use Prim.Native.Nat.{ℕ, zero, suc, ◌+◌, ◌-◌, ◌≤◌, ◌<◌}
+use Prim.Native.Nat.{ℕ, zero, suc, ◌+◌, ◌-◌, ◌≤◌}
 use native.Mathlib.Nat.{zero-add, sub-zero, zero-sub, suc-sub-suc, sub-add-eq, sub-eq-zero_of_le}
 use native.Mathlib.Omega.{arith}
 use mathlib.Core.Path.{◌≡◌, refl, sym, ap, ◌∙◌}
 use mathlib.Core.List.{List, [], ◌∷◌, ◌++◌}
-use lib.ListN.{length, get_or, take, drop, set, length-append, length-set, length-take}
+use lib.ListN.{length, take, drop, length-append, length-take}
 use lib.Seq.{take-nil}
 use Rattle.refusal.specs.Room.{overlay}
-use Rattle.refusal.proofs.Room.{overlay_nothing, overlay-more, overlay_then, set-overlay, length-overlay}
-use Rattle.refusal.proofs.Rest.{rest_here, rest_end}
+use Rattle.wire_log.specs.Text.{window}
+use Rattle.refusal.proofs.Room.{overlay_nothing, overlay-more, length-overlay}
+use Rattle.refusal.proofs.Rest.{rest_end}
 
 -- what fits of a text, from a place of it on, in a room of a size from a place on
 abbrev pub fitting : List ℕ → ℕ → ℕ → ℕ → List ℕ
@@ -68,29 +69,7 @@ pub record Laying (text room : List ℕ) (place : ℕ) (whole out : List ℕ) (o
   pub size : o + length (fitting text i (length room) o) ≡ place + length whole
   pub same : overlay out o (fitting text i (length room) o) ≡ overlay room place whole
 
-fitting_here : (text : List ℕ) (size o i : ℕ) → i < length text → o < size → fitting text i size o ≡ get_or text i 0 ∷ fitting text (i + 1) size (o + 1)
-fitting_here text size o i h g =
-    let more : size - o ≡ suc (size - (o + 1)) = omega arith in
-    rw (rest_here text i h, more)
-
 module _ (text room : List ℕ) (place : ℕ) (whole out : List ℕ) (o i : ℕ) (l : Laying text room place whole out o i) where
-  pub laying_more : (v : ℕ) → v ≡ get_or text i 0 → i < length text → o < length out → Laying text room place whole (set out o v) (o + 1) (i + 1)
-  laying_more v e h g =
-      let inside : o < length room = omega arith in
-      let here = fitting_here text (length room) o i h inside in
-      let rest : List ℕ = fitting text (i + 1) (length room) (o + 1) in
-      let laid : set out o v ≡ overlay out o (get_or text i 0 ∷ []) = rw e (set-overlay out o (get_or text i 0) g) in
-      record {
-        kept = length-set out o v ∙ l.kept;
-        within = rw (length-set out o v) (omega arith);
-        size = omega (arith, l.size, ap length here);
-        same =
-            ap (λ (w : List ℕ). overlay w (o + 1) rest) laid
-            ∙ overlay_then out o (get_or text i 0 ∷ []) rest (o + 1) l.within refl
-            ∙ ap (overlay out o) (sym here)
-            ∙ l.same;
-      }
-
   -- nothing is left to lay
   ended : fitting text i (length room) o ≡ [] → (o ≡ place + length whole) × (out ≡ overlay room place whole)
   ended none = (omega (arith, l.size, ap length none), sym (ap (overlay out o) none ∙ overlay_nothing out o) ∙ l.same)
@@ -133,3 +112,10 @@ laying_start text room from =
 pub window_is : (room whole out : List ℕ) (o : ℕ) → (o ≡ 0 + length whole) × (out ≡ overlay room 0 whole)
     → ◌≡◌ {A = ℕ × List ℕ} (o, out) (length whole, overlay room 0 whole)
 window_is room whole out o e = rw (e.0, e.1, zero-add (length whole))
+
+-- a text laid at the room's start
+pub window_at : (text room after : List ℕ) (from r : ℕ) → (r ≡ 0 + length (fitting text from (length room) 0)) × (after ≡ overlay room 0 (fitting text from (length room) 0))
+    → ◌≡◌ {A = ℕ × List ℕ} (r, after) (window text from room)
+window_at text room after from r e =
+    let none = sub-zero (length room) in
+    window_is room (take (length room) (drop from text)) after r (rw none at e)

@@ -4,7 +4,7 @@ pub mod Check
 pub mod Listing
 pub mod Writer
 pub mod Text
-pub mod Paper
+pub mod Kinds
 pub mod Logs
 pub mod Private
 pub mod Oldest

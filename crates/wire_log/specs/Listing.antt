@@ -3,7 +3,9 @@
 use Rattle.std.specs.Prelude.{ℕ, ◌/◌, cond, List, [], ◌∷◌, reverse, ltb, length, take, drop}
 use Rattle.refusal.specs.Refusals.{number, Answered, served, refused}
 use Rattle.refusal.specs.Room.{overlay}
+use Rattle.wire_log.specs.declared.oldest.Found.{Found}
 use Rattle.wire_log.specs.Log.{LogRecord, Rule, joined}
+use Rattle.wire_log.specs.Kinds.{number_of_kind}
 use Rattle.wire_log.specs.Check.{records_of}
 
 -- a record by its kind, where its body starts in the file, and the body's length
@@ -14,6 +16,10 @@ pub record Row : Type 0 where
 
 abbrev pub rowed : ℕ → ℕ → ℕ → Row
 rowed kind start size = record { kind = kind; start = start; size = size }
+
+-- a record that the code found, as a row
+abbrev pub row_of : Found → Row
+row_of found = rowed (number_of_kind found.kind) found.start found.size
 
 -- the rows of records, the newest first: a body starts where the older records end
 unfoldable pub rows_of : List LogRecord → List Row

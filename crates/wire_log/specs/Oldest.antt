@@ -1,10 +1,11 @@
 -- A log from its oldest record on. A file can only be read back from its end: who goes through it oldest first goes by halves, and asks for
 -- the place where the older half ends, and for the record that ends at a place.
-use Rattle.std.specs.Prelude.{ℕ, ◌≤◌, ◌≡◌, cond, List, ltb, length, drop}
+use Rattle.std.specs.Prelude.{ℕ, ◌≤◌, ◌≡◌, cond, List, ltb, length, drop, Option, Some, None}
 use Rattle.refusal.specs.Refusals.{number, Answered, served, refused}
 use Rattle.wire_log.specs.Log.{LogRecord, Rule}
 use Rattle.wire_log.specs.Check.{ending_at, records_before}
-use Rattle.wire_log.specs.Listing.{Row, rowed}
+use Rattle.wire_log.specs.declared.oldest.Found.{Found}
+use Rattle.wire_log.specs.Listing.{Row, rowed, row_of}
 use Rattle.wire_log.specs.Private.{found_in, shown}
 
 -- the records that end at a place, the newest first; none where one of them is faulty
@@ -15,6 +16,10 @@ records_to rule file place = shown (records_before rule file place)
 abbrev pub row_or : Answered Row → Row
 row_or (served row) = row
 row_or (refused n) = rowed 0 0 0
+
+abbrev pub row_found : Option Found → Row
+row_found (Some found) = row_of found
+row_found None = rowed 0 0 0
 
 -- the newest of the records that end at a place, by its row
 unfoldable pub newest_to : Rule → List ℕ → ℕ → Row

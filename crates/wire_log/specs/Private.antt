@@ -1,11 +1,9 @@
 -- Contracts of functions that only the library calls: nothing that a reader has to believe.
 use Rattle.std.specs.Prelude.{ℕ, ◌+◌, cond, not, List, [], ◌++◌, ltb, length}
-use Rattle.refusal.specs.Refusals.{number, Answered, served, refused, paper}
+use Rattle.refusal.specs.Refusals.{number, Answered, served, refused}
 use Rattle.refusal.specs.Room.{overlay}
-use Rattle.wire_log.specs.declared.reader.Ending.{Ending}
-use Rattle.wire_log.specs.declared.reader.Ending.TheVariants as ending
 use Rattle.wire_log.specs.Log.{LogRecord, Rule, record_bytes, closing, most}
-use Rattle.wire_log.specs.Check.{start_at}
+use Rattle.wire_log.specs.Check.{start_at, ending_at, records_before}
 use Rattle.wire_log.specs.Listing.{Row, rowed}
 
 -- the record that ends at a place, as a row
@@ -13,9 +11,12 @@ abbrev pub found_in : List ℕ → ℕ → Answered LogRecord → Answered Row
 found_in file place (served r) = served (rowed r.kind (start_at file place) (length r.body))
 found_in file place (refused n) = refused n
 
-abbrev pub paper_ending : Ending → Answered Row
-paper_ending (ending.Record kind start size) = served (rowed kind start size)
-paper_ending (ending.Refused r) = refused (paper r)
+-- the record that ends some bytes, as a row, and all records in them
+abbrev pub last_in : Rule → List ℕ → Answered Row
+last_in rule bytes = found_in bytes (length bytes) (ending_at rule bytes (length bytes))
+
+abbrev pub records_in : Rule → List ℕ → Answered (List LogRecord)
+records_in rule bytes = records_before rule bytes (length bytes)
 
 -- the records that are served, if they are
 abbrev pub shown : Answered (List LogRecord) → List LogRecord

@@ -1,93 +1,70 @@
 // The writer of a log.
-ghost use Rattle.std.specs.Prelude.{◌≡◌, [], ◌++◌, ◌+◌, ◌^◌, ◌≤◌, ◌<◌, length};
+ghost use Rattle.std.specs.Prelude.{◌≡◌, [], ◌++◌, ◌+◌, ◌≤◌, length};
+ghost use Rattle.refusal.specs.Refusals.{answered};
 ghost use Rattle.refusal.specs.Room.{overlay, emit};
-ghost use Rattle.payload.specs.Field.{big_endian, bytes_in};
 ghost use Rattle.wire_log.specs.Log.{recorded, kinds, record_bytes, closing, log_of};
 ghost use Rattle.wire_log.specs.Writer.{append as appendTo};
-ghost use Rattle.wire_log.specs.Paper.{paper_answer};
 ghost use Rattle.wire_log.specs.Private.{laid_after};
 
-use crate::Answer;
-use crate::reader::{MOST, check, is_known};
-use payload::Width;
+use crate::reader::{MOST, check, known};
 use refusal::Refusal;
-
-// Writes bytes from a place on.
-fn put_bytes(out: &mut [u8], place: usize, bytes: &[u8])
-    requires { place + length bytes.now ≤ length out.old }
-    ensures { out.new ≡ overlay out.old place bytes.now }
-{
-    let mut i: usize = 0;
-    while i < bytes.len() {
-        out[place + i] = bytes[i];
-        i += 1;
-    }
-}
-
-// Writes a number, big-endian, at a place.
-fn put_number(out: &mut [u8], place: usize, n: u32, width: Width)
-    requires { (n < 256 ^ bytes_in width) × (place + bytes_in width ≤ length out.old) }
-    ensures { out.new ≡ overlay out.old place (big_endian (bytes_in width) n) }
-{
-    payload::put(out, place, n, width);
-}
 
 // Writes a record and the closing bytes after the records of a log, which end at `total`; `count` is the new number of records.
 fn lay_record(buffer: &mut [u8], total: usize, kind: u8, body: &[u8], count: usize)
     requires { (count ≤ 65000) × (total + length body.now + 3 ≤ 65000) × (total + length body.now + 11 ≤ length buffer.old) }
     ensures { buffer.new ≡ overlay buffer.old total (record_bytes (recorded kind body.now) ++ closing count (total + length (record_bytes (recorded kind body.now)))) }
 {
-    put_bytes(buffer, total, body);
     let end = total + body.len();
+    let size = body.len() as u16;
+    let new_total = (end + 3) as u32;
+    buffer[total..end].copy_from_slice(body);
     buffer[end] = kind;
-    put_number(buffer, end + 1, body.len() as u32, Width::Two);
-    put_number(buffer, end + 3, count as u32, Width::Four);
-    put_number(buffer, end + 7, (end + 3) as u32, Width::Four);
+    buffer[end + 1..end + 3].copy_from_slice(&size.to_be_bytes());
+    buffer[end + 3..end + 7].copy_from_slice(&(count as u32).to_be_bytes());
+    buffer[end + 7..end + 11].copy_from_slice(&new_total.to_be_bytes());
 }
 
 // Adds a record to a log whose count and total are known.
-fn add_after(buffer: &mut [u8], count: usize, total: usize, kind: u8, body: &[u8]) -> Answer
+fn add_after(
+    buffer: &mut [u8],
+    count: usize,
+    total: usize,
+    kind: u8,
+    body: &[u8],
+) -> Result<usize, Refusal>
     requires { (count ≤ total) × (total ≤ 65000) }
-    ensures { (paper_answer result, buffer.new) ≡ laid_after kinds count total (recorded kind body.now) buffer.old }
+    ensures { (answered result, buffer.new) ≡ laid_after kinds count total (recorded kind body.now) buffer.old }
 {
     let n = body.len();
-    if !is_known(kind, n) {
-        return Answer::Refused(Refusal::BadKind);
-    }
-    if MOST < n {
-        return Answer::Refused(Refusal::OutOfRange);
-    }
-    if MOST < total + n + 3 {
-        return Answer::Refused(Refusal::OutOfRange);
+    known(kind, n)?;
+    if MOST < n || MOST < total + n + 3 {
+        return Err(Refusal::OutOfRange);
     }
     if buffer.len() < total + n + 11 {
-        return Answer::Refused(Refusal::NoRoom);
+        return Err(Refusal::NoRoom);
     }
     lay_record(buffer, total, kind, body, count + 1);
-    Answer::Number(total + n + 11)
+    Ok(total + n + 11)
 }
 
 // Adds one record to the log of `size` bytes at the start of the lent buffer, and answers its new length.
-pub fn append(buffer: &mut [u8], size: usize, kind: u8, body: &[u8]) -> Answer
-    ensures { (paper_answer result, buffer.new) ≡ appendTo kinds buffer.old size (recorded kind body.now) }
+pub fn append(buffer: &mut [u8], size: usize, kind: u8, body: &[u8]) -> Result<usize, Refusal>
+    ensures { (answered result, buffer.new) ≡ appendTo kinds buffer.old size (recorded kind body.now) }
 {
     if buffer.len() < size {
-        return Answer::Refused(Refusal::NoRoom);
+        return Err(Refusal::NoRoom);
     }
-    match check(&buffer[..size]) {
-        Answer::Refused(r) => Answer::Refused(r),
-        Answer::Number(count) => add_after(buffer, count, size - 8, kind, body),
-    }
+    let count = check(&buffer[..size])?;
+    add_after(buffer, count, size - 8, kind, body)
 }
 
 // Writes the log without records at the start of the lent buffer, and answers its length.
-pub fn empty(buffer: &mut [u8]) -> Answer
-    ensures { (paper_answer result, buffer.new) ≡ emit (log_of []) buffer.old }
+pub fn empty(buffer: &mut [u8]) -> Result<usize, Refusal>
+    ensures { (answered result, buffer.new) ≡ emit (log_of []) buffer.old }
 {
     if buffer.len() < 8 {
-        return Answer::Refused(Refusal::NoRoom);
+        return Err(Refusal::NoRoom);
     }
-    put_number(buffer, 0, 0, Width::Four);
-    put_number(buffer, 4, 0, Width::Four);
-    Answer::Number(8)
+    buffer[..8].fill(0);
+    Ok(8)
 }

@@ -1,20 +1,12 @@
 -- `compare::compare` meets its contract. Assumes nothing.
-use mathlib.Core.Path.{sym, ap, ◌∙◌}
-use Rattle.wire_log.specs.Paper.{paper_answer}
+use Rattle.std.proofs.lemmas.Result.{err_from_is_err_and}
 use Rattle.compare.proofs.WholeLaws.{first_bad, second_bad}
 use Rattle.compare.proofs.compare.Goals as goal
 
-pub compare_all-requires : goal.compare_all-requires
-compare_all-requires c = (
-  sym (ap paper_answer c.in-Number.is) ∙ c.check.ensures,
-  sym (ap paper_answer c.in-Number-check.is) ∙ c.check-in-Number.ensures,
-)
+pub returns-in_err-m : goal.returns-in_err-m
+returns-in_err-m c =
+    let p = err_from_is_err_and c.from_residual.result c.from_residual.ensures.1 in rw (p.1, p.2) (first_bad _ _ _ c.in_err-m.ensures)
 
-pub returns-in-Refused : goal.returns-in-Refused
-returns-in-Refused c =
-    first_bad _ _ _ (sym (ap paper_answer c.in-Refused.is) ∙ c.check.ensures)
-
-pub returns-in-Refused-check : goal.returns-in-Refused-check
-returns-in-Refused-check c =
-    second_bad _ _ _ c.in-Number.m (sym (ap paper_answer c.in-Number.is) ∙ c.check.ensures)
-    (sym (ap paper_answer c.in-Refused-check.is) ∙ c.check-in-Number.ensures)
+pub returns-in_err-n : goal.returns-in_err-n
+returns-in_err-n c =
+    let p = err_from_is_err_and c.from_residual-in_err-n.result c.from_residual-in_err-n.ensures.1 in rw (p.1, p.2) (second_bad _ _ _ _ c.in_ok-m.ensures c.in_err-n.ensures)

@@ -1,20 +1,15 @@
 -- `compare::mark` meets its contract. Assumes nothing.
-use Rattle.compare.proofs.MarkLaws.{mark-kinds, mark-same, mark-differ}
+use Rattle.std.proofs.Common.{true, false}
+use Rattle.compare.proofs.MarkLaws.{mark_kinds, mark_by}
 use Rattle.compare.proofs.mark.Goals as goal
+use Rattle.compare.proofs.mark.Goals.{else-eq-via-then-eq+else-eq-2, else-eq-via-else-eq}
 
-pub returns-then-x-y : goal.returns-then-x-y
-returns-then-x-y c =
-    let g = c.args in
-    mark-kinds g.a.now g.b.now g.x.kind g.x.start g.x.size g.y.kind g.y.start g.y.size c.if-x-y.true
+pub returns-then-eq-2 : goal.returns-then-eq-2
+returns-then-eq-2 c = mark_by _ _ c.args.x c.args.y c.if-eq.ensures true c.if-eq-2.ensures
 
-pub returns-then-same_bytes : goal.returns-then-same_bytes
-returns-then-same_bytes c =
-    let g = c.args in
-    mark-same g.a.now g.b.now g.x.kind g.x.start g.x.size g.y.kind g.y.start g.y.size c.if-x-y.false
-    c.same_bytes.ensures c.if-same_bytes.true
-
-pub returns : goal.returns
-returns c =
-    let g = c.args in
-    mark-differ g.a.now g.b.now g.x.kind g.x.start g.x.size g.y.kind g.y.start g.y.size c.if-x-y.false
-    c.same_bytes.ensures c.if-same_bytes.false
+pub returns-else-eq : goal.returns-else-eq
+returns-else-eq c =
+    elim c.else-eq.branch [
+      | else-eq-via-then-eq+else-eq-2 w ↦ mark_by _ _ c.args.x c.args.y w.if-eq.ensures false w.if-eq-2.ensures
+      | else-eq-via-else-eq w ↦ mark_kinds _ _ c.args.x c.args.y w.if-eq.ensures
+    ]

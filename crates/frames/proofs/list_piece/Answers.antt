@@ -1,10 +1,11 @@
 use Rattle.std.proofs.Common.{◌≡◌, ℕ, ◌+◌, ◌-◌, ◌≤◌, ◌++◌, List, arith, length, take, drop, sym, ap, ◌∙◌, append_assoc, append-nil, length-append, length-drop}
 use mathlib.Core.List.{map}
+use Rattle.std.specs.Prelude.{Result, Ok, Err, IsOk, refl}
+use Rattle.refusal.specs.declared.Refusal.{Refusal}
 use lib.Seq.{length-take-le}
 use Rattle.refusal.proofs.Rest.{rest_end}
 use Rattle.shdlc.specs.Stream.{byte}
 use Rattle.receiver.specs.Record.{Record, held, in_range, record_from}
-use Rattle.receiver.proofs.Cases.{not_false}
 use Rattle.lines.specs.declared.Listing.{Listing}
 use Rattle.lines.specs.Listing.{Progress, paper_listing, shown_by, fill_of}
 use Rattle.lines.proofs.Loop.{rest_slice}
@@ -40,15 +41,18 @@ all_shown : (r : Record) (piece : List ℕ) (i : ℕ) {front text : List ℕ} �
 unfolding shown_by
 all_shown r piece i {front} h e = sym (append-nil front) ∙ ap (λ (l : List ℕ). front ++ shown_by r l) (sym (rest_end piece i h)) ∙ e
 
-pub returns-in_default : goal.returns-in_default
-returns-in_default c =
+-- an answer that is no refusal
+served_ok : (r : Result ℕ Refusal) → ((why : Refusal) → r ≡ Err why → ⊥) → IsOk r
+served_ok (Ok n) h = refl
+served_ok (Err why) h = absurd (h why refl)
+
+pub unwrap-end-requires : goal.unwrap-end-requires
+unwrap-end-requires c =
     let l = c.loop-at in
-    let r = c.make_room-room in
     let f = c.fill-more in
-    absurd (
-    never_refused (paper_listing l.l l.store) _ l.out r.result.place f.result f.ensures l.invariant.7
-    (r.ensures.2 (not_false r.result.ok c.if-not-room.false) (omega (arith, l.invariant.3, c.requires.1))) c.in_default.is
-    )
+    served_ok f.result.said (λ why e.
+    never_refused (paper_listing l.l l.store) _ l.out c.in_ok-place.place f.result f.ensures l.invariant.7
+    (c.in_ok-place.ensures.2 (omega (arith, l.invariant.3, c.requires.1))) e)
 
 pub overflow_add-at : goal.overflow_add-at
 overflow_add-at c =
@@ -57,8 +61,8 @@ overflow_add-at c =
     let f = c.fill-more in
     let rest : length (drop l.at a.piece.now) ≡ length a.piece.now - l.at = length-drop l.at a.piece.now in
     let t =
-    went (paper_listing l.l l.store) (drop l.at a.piece.now) l.out c.make_room-room.result.place f.result
-    (f.ensures ∙ ap (λ (x : List ℕ). fill_of (paper_listing l.l l.store) x l.out c.make_room-room.result.place) (rest_slice a.piece.now l.at)) c.in-Done.is in
+    went (paper_listing l.l l.store) (drop l.at a.piece.now) l.out c.in_ok-place.place f.result
+    (f.ensures ∙ ap (λ (x : List ℕ). fill_of (paper_listing l.l l.store) x l.out c.in_ok-place.place) (rest_slice a.piece.now l.at)) c.unwrap-end.ensures in
     omega (arith, t.within, rest, l.invariant.0, c.well_formed)
 
 pub loop-at-smaller : goal.loop-at-smaller
@@ -68,8 +72,8 @@ loop-at-smaller c =
     let f = c.fill-more in
     let rest : length (drop l.at a.piece.now) ≡ length a.piece.now - l.at = length-drop l.at a.piece.now in
     let t =
-    went (paper_listing l.l l.store) (drop l.at a.piece.now) l.out c.make_room-room.result.place f.result
-    (f.ensures ∙ ap (λ (x : List ℕ). fill_of (paper_listing l.l l.store) x l.out c.make_room-room.result.place) (rest_slice a.piece.now l.at)) c.in-Done.is in
+    went (paper_listing l.l l.store) (drop l.at a.piece.now) l.out c.in_ok-place.place f.result
+    (f.ensures ∙ ap (λ (x : List ℕ). fill_of (paper_listing l.l l.store) x l.out c.in_ok-place.place) (rest_slice a.piece.now l.at)) c.unwrap-end.ensures in
     omega (arith, t.within, t.some (omega (arith, rest, c.loop-at-test.true)) (omega (arith, l.invariant.4, c.requires.0, c.loop-at-test.true)), rest, c.loop-at-test.true)
 
 pub loop-at-preserved : goal.loop-at-preserved
@@ -79,8 +83,8 @@ loop-at-preserved c =
     let f = c.fill-more in
     let rest : length (drop l.at a.piece.now) ≡ length a.piece.now - l.at = length-drop l.at a.piece.now in
     let t =
-    went (paper_listing l.l l.store) (drop l.at a.piece.now) l.out c.make_room-room.result.place f.result
-    (f.ensures ∙ ap (λ (x : List ℕ). fill_of (paper_listing l.l l.store) x l.out c.make_room-room.result.place) (rest_slice a.piece.now l.at)) c.in-Done.is in (
+    went (paper_listing l.l l.store) (drop l.at a.piece.now) l.out c.in_ok-place.place f.result
+    (f.ensures ∙ ap (λ (x : List ℕ). fill_of (paper_listing l.l l.store) x l.out c.in_ok-place.place) (rest_slice a.piece.now l.at)) c.unwrap-end.ensures in (
       omega (arith, t.within, rest, l.invariant.0),
       omega (arith, t.fits f.auto.out, f.auto.out),
       f.auto.store ∙ l.invariant.2,
@@ -90,7 +94,7 @@ loop-at-preserved c =
       (λ h. grown l.out a.out.now
           (shown_by (held l.l.receiver l.store) (take f.result.taken (drop l.at a.piece.now)))
           (shown_by (held f.result.listing.receiver f.new.store) (drop (l.at + f.result.taken) a.piece.now))
-          l.filled c.make_room-room.result.place l.invariant.1 l.invariant.3 h c.make_room-room.ensures.1 t.text
+          l.filled c.in_ok-place.place l.invariant.1 l.invariant.3 h c.in_ok-place.ensures.1 t.text
           (shown-on (held l.l.receiver l.store) (held f.result.listing.receiver f.new.store) a.piece.now l.at f.result.taken t.holds) (l.invariant.6 h)),
       ap in_range t.holds ∙ range_kept (held l.l.receiver l.store) _ l.invariant.7,
     )
@@ -100,6 +104,6 @@ returns c =
     let l = c.loop-at in
     let a = c.args in (
       omega (arith, l.invariant.1, l.invariant.3),
-      (λ h. done l.l a.from l.store a.store.now a.piece.now l.at l.invariant.0 c.loop-at-test.false l.invariant.4 l.invariant.5),
-      λ h g. all_shown (held l.l.receiver l.store) a.piece.now l.at c.loop-at-test.false (l.invariant.6 g),
+      done l.l a.from l.store a.store.now a.piece.now l.at l.invariant.0 c.loop-at-test.false l.invariant.4 l.invariant.5,
+      λ g. all_shown (held l.l.receiver l.store) a.piece.now l.at c.loop-at-test.false (l.invariant.6 g),
     )

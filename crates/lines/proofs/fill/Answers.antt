@@ -11,17 +11,17 @@ use Rattle.lines.proofs.fill.Goals as goal
 pub returns-then-not-in_range : goal.returns-then-not-in_range
 returns-then-not-in_range c = fill_range _ _ _ _ (sym c.in_range.ensures ∙ c.if-not-in_range.true)
 
-pub returns-then-room_from-lt24 : goal.returns-then-room_from-lt24
-returns-then-room_from-lt24 c =
+pub returns-then-saturating_sub-lt-LINE : goal.returns-then-saturating_sub-lt-LINE
+returns-then-saturating_sub-lt-LINE c =
     let a = c.args in
-    fill_room (paper_listing a.l a.store.now) a.piece.now a.out.now a.place (sym c.in_range.ensures ∙ c.if-not-in_range.false) (omega (arith, c.room_from.ensures))
+    fill_room (paper_listing a.l a.store.now) a.piece.now a.out.now a.place (sym c.in_range.ensures ∙ c.if-not-in_range.false) (omega (arith, c.saturating_sub.ensures))
 
 pub slice_bounds-list-end : goal.slice_bounds-list-end
 slice_bounds-list-end c = sym (length-take-le _ _ (omega (arith, c.wanted-n.ensures)))
 
 pub list-listed-requires : goal.list-listed-requires
 list-listed-requires c =
-    (sym c.in_range.ensures ∙ c.if-not-in_range.false, omega (arith, c.room_from.ensures, c.if-room_from-lt24.false))
+    (sym c.in_range.ensures ∙ c.if-not-in_range.false, omega (arith, c.saturating_sub.ensures, c.if-saturating_sub-lt-LINE.false))
 
 pub overflow_cast-result : goal.overflow_cast-result
 overflow_cast-result c =
@@ -40,6 +40,6 @@ overflow_sub-result c =
 pub returns : goal.returns
 returns c =
     let a = c.args in
-    let free : 24 ≤ length a.out.now - a.place = omega (arith, c.room_from.ensures, c.if-room_from-lt24.false) in
+    let free : 24 ≤ length a.out.now - a.place = omega (arith, c.saturating_sub.ensures, c.if-saturating_sub-lt-LINE.false) in
     fill-listed (paper_listing a.l a.store.now) a.piece.now a.out.now a.place (sym c.in_range.ensures ∙ c.if-not-in_range.false)
     c.list-listed.result free c.wanted-n.ensures c.list-listed.ensures

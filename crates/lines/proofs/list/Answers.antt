@@ -5,6 +5,7 @@ use mathlib.Core.Path.{refl, ◌∙◌}
 use lib.ListN.{length, take, drop, length-take, length-drop}
 use Rattle.receiver.specs.Record.{held}
 use Rattle.receiver.proofs.Cases.{range_size, taken_within}
+use Rattle.lines.proofs.Lines.{laid-as}
 use Rattle.lines.proofs.Loop.{turn, nothing_left, no_room, ended, from_start}
 use Rattle.lines.proofs.list.Goals as goal
 
@@ -32,8 +33,8 @@ loop-taken-smaller c =
     let l = c.loop-taken in
     let t =
     turn (held l.r l.store) c.args.piece.now l.frame l.out l.taken l.filled c.feed-fed.result c.loop-taken-test.true
-    (l.invariant.range c.loop-taken-test.true) (omega arith) l.invariant.place c.if-out-filled-lt24.false c.feed-fed.ensures
-    c.put_answer-filled.ensures c.put_answer-filled.auto.out in
+    (l.invariant.range c.loop-taken-test.true) (omega arith) l.invariant.place c.if-out-filled-lt-LINE.false c.feed-fed.ensures
+    (laid-as _ _ _ _ (c.as_slice.ensures.value ∙ c.answer_line-line.ensures) c.put-filled.ensures) c.put-filled.auto.out in
     omega (arith, t.within, t.more)
 
 pub loop-taken-preserved : goal.loop-taken-preserved
@@ -41,8 +42,8 @@ loop-taken-preserved c =
     let l = c.loop-taken in
     let t =
     turn (held l.r l.store) c.args.piece.now l.frame l.out l.taken l.filled c.feed-fed.result c.loop-taken-test.true
-    (l.invariant.range c.loop-taken-test.true) (omega arith) l.invariant.place c.if-out-filled-lt24.false c.feed-fed.ensures
-    c.put_answer-filled.ensures c.put_answer-filled.auto.out in
+    (l.invariant.range c.loop-taken-test.true) (omega arith) l.invariant.place c.if-out-filled-lt-LINE.false c.feed-fed.ensures
+    (laid-as _ _ _ _ (c.as_slice.ensures.value ∙ c.answer_line-line.ensures) c.put-filled.ensures) c.put-filled.auto.out in
     let size = c.feed-fed.auto.store ∙ l.invariant.size in record {
       within = t.within;
       place = t.place;
@@ -57,7 +58,7 @@ returns-after-loop-taken c =
     let l = c.loop-taken in
     ended (held l.r l.store) _ l.out l.taken l.filled (nothing_left _ l.taken _ _ c.loop-taken-test.false) l.invariant.same
 
-pub returns-then-out-filled-lt24 : goal.returns-then-out-filled-lt24
-returns-then-out-filled-lt24 c =
+pub returns-then-out-filled-lt-LINE : goal.returns-then-out-filled-lt-LINE
+returns-then-out-filled-lt-LINE c =
     let l = c.loop-taken in
-    ended (held l.r l.store) _ l.out l.taken l.filled (no_room _ _ _ c.if-out-filled-lt24.true) l.invariant.same
+    ended (held l.r l.store) _ l.out l.taken l.filled (no_room _ _ _ c.if-out-filled-lt-LINE.true) l.invariant.same

@@ -1,26 +1,24 @@
--- `reading::scaled_float`: the tests say what the scale is.
+-- The checked scale is good, or the refusal is 18.
 use Rattle.std.proofs.Common.{w16, w32}
+use Rattle.std.proofs.lemmas.Result.{err_from_is_err_and}
 use mir.ValLaws.{to_z-of_z}
 use Rattle.reading.specs.Reading.{quantity}
-use Rattle.reading.proofs.Scale.{scale_low, scale_high, scale_good}
+use Rattle.reading.proofs.Scale.{good_pos, scale_refused, scale_served}
 use Rattle.reading.proofs.scaled_float.Goals as goal
 
-pub returns-then-scale-lt1 : goal.returns-then-scale-lt1
+pub returns-in_err-scale : goal.returns-in_err-scale
 unfolding quantity
-returns-then-scale-lt1 c =
+returns-in_err-scale c =
     let e = to_z-of_z w32 c.args.scale c.ranges.scale in
-    rw (scale_low c.args.scale (rw e at c.if-scale-lt1.true))
-
-pub returns-then-scale-gt32767 : goal.returns-then-scale-gt32767
-unfolding quantity
-returns-then-scale-gt32767 c =
-    let e = to_z-of_z w32 c.args.scale c.ranges.scale in
-    rw (scale_high c.args.scale (rw e at c.if-scale-lt1.false) (rw e at c.if-scale-gt32767.true))
+    let p = err_from_is_err_and c.from_residual.result c.from_residual.ensures.1 in
+    let s = scale_refused c.args.scale _ (rw e at c.in_err-scale.ensures) in
+    rw (p.1, p.2, s.0, s.1)
 
 pub returns : goal.returns
 unfolding quantity
 returns c =
     let d = c.difference-d in
     let e = to_z-of_z w32 c.args.scale c.ranges.scale in
+    let s = scale_served c.args.scale _ (rw e at c.in_ok-scale.ensures) in
     let p = rw (to_z-of_z w16 c.args.raw c.ranges.raw, to_z-of_z w16 c.args.offset c.ranges.offset) at d.ensures.0 in
-    rw (e, to_z-of_z w32 d.result (record { sfits = d.type_inv }), p, scale_good c.args.scale (rw e at c.if-scale-lt1.false) (rw e at c.if-scale-gt32767.false))
+    rw (to_z-of_z w32 d.result (record { sfits = d.type_inv }), p, c.from.ensures, s.1, good_pos c.args.scale s.0, s.0)

@@ -1,21 +1,18 @@
--- `receiver::place_in` meets its contract, by what `kept` and `shdlc::stuffed_len` ensure. Assumes nothing.
-use native.Mathlib.Omega.{arith}
-use mathlib.Core.Path.{sym}
-use lib.Seq.{length-take-le}
-use Rattle.receiver.proofs.Place.{place_last, place_sent}
+use Rattle.std.proofs.Common.{◌≡◌, ◌<◌, ℕ, min, length, take, Result, Ok, Err, arith, ap}
+use Rattle.std.specs.Prelude.{OkIff}
+use Rattle.std.specs.Result.{result_unwrap_or}
+use Rattle.shdlc.specs.Stuffing.{stuff}
+use Rattle.receiver.proofs.Place.{place_kept}
 use Rattle.receiver.proofs.place_in.Goals as goal
 
-pub returns-then-len-ge65535 : goal.returns-then-len-ge65535
-returns-then-len-ge65535 c = place_last _ _ c.requires c.if-len-ge65535.true
-
-pub slice_bounds-stuffed_len-end : goal.slice_bounds-stuffed_len-end
-slice_bounds-stuffed_len-end c = sym (length-take-le _ _ (omega arith))
-
-pub overflow_add-place : goal.overflow_add-place
-overflow_add-place c = omega (arith, (place_sent c.args.len c.args.store.now c.requires c.kept-n.ensures c.stuffed_len.ensures).0)
-
-pub returns-then-place-ge65535 : goal.returns-then-place-ge65535
-returns-then-place-ge65535 c = omega (arith, (place_sent c.args.len c.args.store.now c.requires c.kept-n.ensures c.stuffed_len.ensures).1)
+-- a number as a u16, or the largest of these
+narrowed : {E : Type 0} (r : Result ℕ E) (n : ℕ) → OkIff r (n < 65536) n → result_unwrap_or r 65535 ≡ min n 65535
+narrowed (Ok m) n h = omega (arith, h.0, h.1)
+narrowed (Err e) n h = omega arith
 
 pub returns : goal.returns
-returns c = omega (arith, (place_sent c.args.len c.args.store.now c.requires c.kept-n.ensures c.stuffed_len.ensures).1)
+returns c =
+    let all = place_kept c.args.len c.args.store.now c.told-store in
+    let kept = narrowed c.try_from.result _ c.try_from.ensures in
+    let sent = ap length (ap stuff (ap (λ (n : ℕ). take n c.args.store.now) c.min-kept.ensures)) in
+    omega arith

@@ -1,39 +1,35 @@
--- `receiver::scan_one` meets its contract: each `return` by the law of the turn that it is. Assumes nothing.
-use borrow.Author.Rules.{rules}
-use mathlib.Core.Path.{sym, ◌∙◌}
+use mathlib.Core.Path.{ap}
+use Rattle.receiver.specs.declared.Mode.{Mode}
 use Rattle.receiver.specs.declared.Mode.TheVariants.{BadEscape}
-use Rattle.receiver.proofs.Modes.{act_escaped, act_bad, act_none}
-use Rattle.receiver.proofs.OneByte.{closes, opens, becomes, discards, keeps, plains}
+use Rattle.receiver.specs.Record.{pending_in}
+use Rattle.receiver.proofs.Modes.{act_escaped, act_bad, act_noise, act_faulty, pending_faulty}
+use Rattle.receiver.proofs.OneByte.{closes, opens, becomes, discards, keeps}
 use Rattle.receiver.proofs.Place.{came_as_lem}
 use Rattle.receiver.proofs.scan_one.Goals as goal
 
-pub returns-then-m-eq-PLAIN : goal.returns-then-m-eq-PLAIN
-returns-then-m-eq-PLAIN c = plains _ c.mode_number-m.ensures _ _ c.if-m-eq-PLAIN.true c.scan_plain.ensures
-
-pub returns-then-is_pending : goal.returns-then-is_pending
-returns-then-is_pending c = closes _ c.mode_number-m.ensures _ _ c.mode_of.ensures c.if-b-eq126.true (sym c.is_pending.ensures ∙ c.if-is_pending.true)
-
 pub returns-then-b-eq126 : goal.returns-then-b-eq126
-returns-then-b-eq126 c = opens _ c.mode_number-m.ensures _ _ c.stands.ensures c.if-b-eq126.true (sym c.is_pending.ensures ∙ c.if-is_pending.false)
+returns-then-b-eq126 c = opens c.args.r _ _ c.passed.ensures c.if-b-eq126.true (ap (λ (m : Mode). pending_in m c.args.r.len) c.in-Outside.is)
+
+pub returns-else-b-eq126 : goal.returns-else-b-eq126
+returns-else-b-eq126 c = discards c.args.r _ _ c.if-b-eq126.false c.passed-in-Outside.ensures c.counted.ensures (act_noise _ _ c.in-Outside.is)
+
+pub returns-then-b-eq126-2 : goal.returns-then-b-eq126-2
+returns-then-b-eq126-2 c = closes c.args.r _ _ c.ended.ensures c.if-b-eq126-2.true (ap (λ (m : Mode). pending_in m c.args.r.len) c.in-Escaped.is)
 
 pub push-requires : goal.push-requires
-push-requires c = (
-  search rules,
-  came_as_lem _ _ _ c.if-b-eq126.false c.if-m-eq-ESCAPED.true
-      (act_escaped _ _ _ c.if-m-eq-ESCAPED.true c.is_escaped.ensures c.if-is_escaped.true),
-)
+push-requires c =
+    came_as_lem _ _ _ c.if-b-eq126-2.false c.in-Escaped.is (act_escaped _ _ _ c.in-Escaped.is c.is_escaped.ensures c.if-is_escaped.true)
 
 pub returns-then-is_escaped : goal.returns-then-is_escaped
-returns-then-is_escaped c = keeps _ c.mode_number-m.ensures _ _ c.if-b-eq126.false _ c.push.ensures
-    (act_escaped _ _ _ c.if-m-eq-ESCAPED.true c.is_escaped.ensures c.if-is_escaped.true)
+returns-then-is_escaped c =
+    keeps c.args.r _ _ c.if-b-eq126-2.false _ c.push.ensures (act_escaped _ _ _ c.in-Escaped.is c.is_escaped.ensures c.if-is_escaped.true)
 
-pub returns-then-m-eq-ESCAPED : goal.returns-then-m-eq-ESCAPED
-returns-then-m-eq-ESCAPED c = becomes _ c.mode_number-m.ensures _ _ c.if-b-eq126.false BadEscape c.stands-then-m-eq-ESCAPED.ensures
-    (act_bad _ _ _ c.if-m-eq-ESCAPED.true c.is_escaped.ensures c.if-is_escaped.false)
+pub returns-else-is_escaped : goal.returns-else-is_escaped
+returns-else-is_escaped c =
+    becomes c.args.r _ _ c.if-b-eq126-2.false BadEscape c.passed-in-Escaped.ensures (act_bad _ _ _ c.in-Escaped.is c.is_escaped.ensures c.if-is_escaped.false)
 
-pub returns-then-m-eq-OUTSIDE : goal.returns-then-m-eq-OUTSIDE
-returns-then-m-eq-OUTSIDE c = discards _ c.mode_number-m.ensures _ _ c.if-b-eq126.false c.stands-then-m-eq-OUTSIDE.ensures c.counted.ensures c.if-m-eq-OUTSIDE.true
+pub returns-then-b-eq126-3 : goal.returns-then-b-eq126-3
+returns-then-b-eq126-3 c = closes c.args.r _ _ c.ended-then-b-eq126-3.ensures c.if-b-eq126-3.true (pending_faulty _ _ c.in-BadEscape.is)
 
-pub returns : goal.returns
-returns c = becomes _ c.mode_number-m.ensures _ _ c.if-b-eq126.false _ c.stands-2.ensures
-    (act_none _ _ c.if-m-eq-PLAIN.false c.if-m-eq-ESCAPED.false c.if-m-eq-OUTSIDE.false)
+pub returns-else-b-eq126-3 : goal.returns-else-b-eq126-3
+returns-else-b-eq126-3 c = becomes c.args.r _ _ c.if-b-eq126-3.false _ c.passed-in-BadEscape.ensures (act_faulty _ _ c.in-BadEscape.is)

@@ -1,18 +1,17 @@
--- `replay::replay` meets its contract. Assumes nothing.
-use mathlib.Core.Path.{sym, ap, ◌∙◌}
-use Rattle.wire_log.specs.Paper.{paper_answer}
-use Rattle.replay.proofs.Whole.{lease_refused, log_refused, log_replayed}
+use Rattle.std.proofs.Common.{◌≡◌, ◌∙◌, ap, subst, sym, List}
+use Rattle.std.specs.Prelude.{IfOk}
+use Rattle.refusal.specs.Refusals.{Answered, answered}
+use Rattle.board.specs.declared.entries.Entry.{Entry}
+use Rattle.replay.specs.Replay.{shown}
+use Rattle.replay.proofs.Whole.{log_replayed, log_answered}
 use Rattle.replay.proofs.replay.Goals as goal
 
-pub returns-then-not-lease_in_range : goal.returns-then-not-lease_in_range
-returns-then-not-lease_in_range c = lease_refused _ _ _ _ _ _ _ c.lease_in_range.ensures c.if-not-lease_in_range.true c.refused_list.ensures
+pub returns-clause-answer : goal.returns-clause-answer
+returns-clause-answer c =
+    c.replay_all.ensures.answer
+    ∙ log_answered c.args.file.now c.args.lease c.args.room c.lease_in_range.ensures c.if-not-lease_in_range.false (sym (ap answered c.in_ok-count.was) ∙ c.check.ensures)
 
-pub returns-in-Refused : goal.returns-in-Refused
-returns-in-Refused c =
-    log_refused _ _ _ _ _ _ _ c.lease_in_range.ensures c.if-not-lease_in_range.false _
-    (sym (ap paper_answer c.in-Refused.is) ∙ c.check.ensures) c.refused_list-in-Refused.ensures
-
-pub returns-in-Number : goal.returns-in-Number
-returns-in-Number c =
-    log_replayed _ _ _ _ _ _ _ c.lease_in_range.ensures c.if-not-lease_in_range.false _
-    (sym (ap paper_answer c.in-Number.is) ∙ c.check.ensures) c.replay_all.ensures
+pub returns-clause-list : goal.returns-clause-list
+returns-clause-list c =
+    subst (λ (a : Answered (List Entry)). IfOk c.replay_all.result (λ v. v.items ≡ shown a))
+    (log_replayed c.args.file.now c.args.lease c.args.room c.lease_in_range.ensures c.if-not-lease_in_range.false (sym (ap answered c.in_ok-count.was) ∙ c.check.ensures)) c.replay_all.ensures.list

@@ -1,32 +1,29 @@
--- `replay::replay_all` meets its contract. Assumes nothing.
-use native.Mathlib.Omega.{arith}
-use mathlib.Core.Path.{◌≡◌, subst}
+use Rattle.std.proofs.Common.{◌≡◌, ◌∙◌, ap, subst, List}
+use Rattle.std.specs.Prelude.{IfOk}
 use Rattle.refusal.specs.Refusals.{Answered}
 use Rattle.board.specs.declared.entries.Entry.{Entry}
-use mathlib.Core.List.{List}
-use Rattle.replay.specs.Private.{board_in, board_of, list_of, Gives}
-use Rattle.replay.proofs.Whole.{fresh_in_range, all_there, all_replayed, good_left}
+use Rattle.replay.specs.Replay.{room_for, shown}
+use Rattle.replay.specs.Private.{list_of}
+use Rattle.replay.proofs.Whole.{all_there, all_left, good_left}
 use Rattle.replay.proofs.replay_all.Goals as goal
 
-pub overflow_sub-place : goal.overflow_sub-place
-overflow_sub-place c = (all_there c.args.file.now c.args.count c.args.lease c.requires).2
+pub overflow_sub-file : goal.overflow_sub-file
+overflow_sub-file c = (all_there c.args.file.now c.args.count c.args.lease c.requires).2
 
-pub replay_newest-end-requires : goal.replay_newest-end-requires
-replay_newest-end-requires c =
-    let there = all_there c.args.file.now c.args.count c.args.lease c.requires in
-    ((fresh_in_range _ _ c.fresh-requests.ensures, fresh_in_range _ _ c.fresh-replies.ensures, omega arith), there.0, there.1)
+pub replay_newest-requires : goal.replay_newest-requires
+replay_newest-requires c = let there = all_there c.args.file.now c.args.count c.args.lease c.requires in (there.0, there.1)
 
 -- the board that all records leave
-pub list_board-requires : goal.list_board-requires
-list_board-requires c =
-    let left : board_in c.replay_newest-end.result.desk.ended c.replay_newest-end.new.board ≡ board_of c.args.file.now c.args.lease =
-    all_replayed c.args.file.now c.args.count c.args.lease c.requires _ _ _ _ _ _
-    c.fresh-requests.ensures c.fresh-replies.ensures c.nothing_yet-desk.ensures c.replay_newest-end.ensures.0 in
-    good_left c.args.file.now c.args.lease _ left
+pub list-requires : goal.list-requires
+list-requires c =
+    good_left c.args.file.now c.args.lease _ (all_left c.args.file.now c.args.count c.args.lease c.requires c.new-run.result c.replay_newest.new.self c.new-run.ensures c.replay_newest.ensures)
 
-pub returns : goal.returns
-returns c =
-    let left : board_in c.replay_newest-end.result.desk.ended c.replay_newest-end.new.board ≡ board_of c.args.file.now c.args.lease =
-    all_replayed c.args.file.now c.args.count c.args.lease c.requires _ _ _ _ _ _
-    c.fresh-requests.ensures c.fresh-replies.ensures c.nothing_yet-desk.ensures c.replay_newest-end.ensures.0 in
-    subst (λ (b : Answered (List Entry)). Gives (list_of b) c.args.room c.list_board.result) left c.list_board.ensures
+pub returns-clause-answer : goal.returns-clause-answer
+returns-clause-answer c =
+    c.list.ensures.answer
+    ∙ ap (λ (b : Answered (List Entry)). room_for (list_of b) c.args.room) (all_left c.args.file.now c.args.count c.args.lease c.requires c.new-run.result c.replay_newest.new.self c.new-run.ensures c.replay_newest.ensures)
+
+pub returns-clause-list : goal.returns-clause-list
+returns-clause-list c =
+    subst (λ (b : Answered (List Entry)). IfOk c.list.result (λ v. v.items ≡ shown (list_of b)))
+    (all_left c.args.file.now c.args.count c.args.lease c.requires c.new-run.result c.replay_newest.new.self c.new-run.ensures c.replay_newest.ensures) c.list.ensures.list

@@ -1,14 +1,11 @@
--- `replies::text_len` meets its contract. The invariant: what was passed, and the text of what is left, is the text. Assumes
--- nothing.
-use native.Mathlib.Omega.{arith}
-use Rattle.replies.proofs.Text.{zero_here, zero_later, no_zero}
+-- The place of the first 00.
+use Rattle.std.proofs.Common.{rules, tests, ◌∙◌}
+use Rattle.std.proofs.lemmas.Iterator.{YieldsList-from_slice}
+use Rattle.std.proofs.lemmas.Iterator.Search.{position_from_yields_List}
+use Rattle.replies.proofs.Text.{is_zero, text_length}
 use Rattle.replies.proofs.text_len.Goals as goal
 
-pub returns-then-bytes-i-eq0 : goal.returns-then-bytes-i-eq0
-returns-then-bytes-i-eq0 c = omega (arith, zero_here c.args.bytes.now c.loop-i.i c.loop-i-test.true c.if-bytes-i-eq0.true)
-
-pub loop-i-preserved : goal.loop-i-preserved
-loop-i-preserved c = omega (arith, zero_later c.args.bytes.now c.loop-i.i c.loop-i-test.true c.if-bytes-i-eq0.false)
-
 pub returns : goal.returns
-returns c = omega (arith, no_zero c.args.bytes.now c.loop-i.i c.loop-i-test.false)
+returns c =
+    let p = position_from_yields_List is_zero _ _ _ c.position.ensures.ran (YieldsList-from_slice c.args.bytes.now (cc)) (λ x b q h. search (rules, tests)) in
+    c.unwrap_or.ensures ∙ text_length _ _ p

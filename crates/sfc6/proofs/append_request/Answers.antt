@@ -8,4 +8,4 @@ pub returns : goal.returns
 unfolding append_request
 returns c =
     let a = c.args in
-    appended a.buffer.now a.start c.room_from-end.result (write_request _ _) (starts _ _ _ c.room_from-end.ensures) c.write_request.ensures
+    appended a.buffer.now a.start c.min-end.result (write_request _ _) (starts _ _ _ c.min-end.ensures) c.write_request.ensures

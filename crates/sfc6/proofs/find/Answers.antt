@@ -1,16 +1,16 @@
--- `sfc6::find` meets its contract. The invariant: what is found in the rows left is what is found in the table. Assumes nothing.
-use mathlib.Core.Path.{◌∙◌}
-use native.Mathlib.Omega.{arith}
-use Rattle.sfc6.proofs.Reading.{table-found, table_passed, table-ended}
+-- `sfc6::find` meets its contract. Assumes nothing.
+use Rattle.std.proofs.Common.{true, false, sym, below_more, arith, rules}
+use Rattle.sfc6.proofs.Reading.{table-found, table-ended}
 use Rattle.sfc6.proofs.find.Goals as goal
 
-pub returns-then-suits : goal.returns-then-suits
-returns-then-suits c =
-    table-found _ _ c.loop-i-test.true c.request_at.ensures c.row_of.ensures c.suits.ensures c.if-suits.true ∙ c.loop-i.invariant.1
-
-pub loop-i-preserved : goal.loop-i-preserved
-loop-i-preserved c =
-    (omega arith, table_passed _ _ c.loop-i-test.true c.request_at.ensures c.row_of.ensures c.suits.ensures c.if-suits.false ∙ c.loop-i.invariant.1)
+pub returns-then-passes : goal.returns-then-passes
+returns-then-passes g c =
+    λ test is.
+    table-found test (omega (arith, c.loop-place-test)) (sym (is c.loop-place.place true (omega (arith, c.loop-place-test)) (search rules)))
+    (λ k h. sym (is k false (omega (arith, h, c.loop-place-test)) (c.loop-place.invariant k h)))
 
 pub returns : goal.returns
-returns c = table-ended _ _ c.loop-i-test.false ∙ c.loop-i.invariant.1
+returns g c = λ test is. table-ended test (λ k h. sym (is k false h (c.loop-place.invariant k (omega (arith, h, c.loop-place-test)))))
+
+pub loop-place-preserved : goal.loop-place-preserved
+loop-place-preserved g c = below_more _ _ c.loop-place.invariant (search rules)

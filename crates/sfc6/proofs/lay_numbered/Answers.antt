@@ -1,6 +1,6 @@
 -- `sfc6::lay_numbered` meets its contract. Assumes nothing.
 use native.Mathlib.Omega.{arith}
-use Rattle.sfc6.proofs.Writing.{frame_stands, frame_copied, frame_long}
+use Rattle.sfc6.proofs.Writing.{copied, frame_stands, frame_copied, frame_long}
 use Rattle.sfc6.proofs.lay_numbered.Goals as goal
 
 pub returns-then-out-gt16 : goal.returns-then-out-gt16
@@ -14,4 +14,4 @@ returns-then-out-end c = frame_long _ _ _ c.lay_at-end.ensures.1 c.if-out-end.tr
 pub returns : goal.returns
 returns c =
     let e = c.lay_at-end.ensures in
-    frame_copied _ _ _ e.1 _ _ _ c.if-out-end.false e.2 c.copy.ensures
+    frame_copied _ _ _ e.1 _ _ _ c.if-out-end.false e.2 (copied _ _ _ c.if-out-end.false c.copy_from_slice.ensures.len c.copy_from_slice.ensures.after)

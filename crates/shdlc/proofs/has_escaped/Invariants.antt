@@ -1,13 +1,9 @@
--- 1 was found where the bytes so far get longer by stuffing, else 0.
-use Rattle.std.proofs.Common.{◌≡◌, ◌+◌, ◌-◌, min, ◌≤◌, length, drop}
+-- One was found where the bytes so far get longer by stuffing.
+use Rattle.std.proofs.Common.{◌≡◌, ◌+◌, ◌≤◌, ℕ, cond, ltb, length, drop}
 use Rattle.shdlc.specs.Stuffing.{stuff}
 use Rattle.shdlc.proofs.has_escaped.Given as goal
 
-abbrev pub invariant-loop-i : goal.invariant-loop-i
-invariant-loop-i l =
-    (l.i ≤ length l.bytes)
-    × (l.i + length (stuff (drop l.i l.bytes)) ≤ length (stuff l.bytes))
-    × (l.found ≡ min 1 (length (stuff l.bytes) - (l.i + length (stuff (drop l.i l.bytes)))))
-
-abbrev pub decreases-loop-i : goal.decreases-loop-i
-decreases-loop-i l = length l.bytes - l.i
+abbrev pub invariant-loop-b : goal.invariant-loop-b
+invariant-loop-b l =
+    (l.b-index + length (stuff (drop l.b-index l.bytes)) ≤ length (stuff l.bytes))
+    × (l.found ≡ cond {A = ℕ} (ltb (l.b-index + length (stuff (drop l.b-index l.bytes))) (length (stuff l.bytes))) 1 0)

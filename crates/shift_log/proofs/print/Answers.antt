@@ -18,4 +18,4 @@ loop-n-preserved g c =
     let text = log_text kinds c.args.file.now in
     let (was-long, was-within, was-kept, was-shown, was-over, short, appended) = c.loop-n.invariant in
     let (long, within, kept, shown, over) = part_is text (c.loop-n.from + c.loop-n.n) _ c.text-n-in-loop-n.ensures (omega arith) was-kept was-long in
-    (long, within, kept, shown, over, short, subst (Appends _ _) (text_so_far text c.loop-n.from c.loop-n.n was-shown) (Appends-trans _ _ _ _ _ appended c.if-not-write_all.ensures))
+    (long, within, kept, shown, over, short, subst (Appends _ _) (text_so_far text c.loop-n.from c.loop-n.n was-shown) (Appends-trans _ _ _ _ _ appended c.in_ok-write_all.ensures))

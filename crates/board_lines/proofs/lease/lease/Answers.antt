@@ -1,21 +1,15 @@
--- `board_lines::lease::lease` meets its contract. The invariant: the digits that are left say the rest of the number. Assumes nothing.
-use Rattle.board_lines.proofs.Value.{reading_start, reading_more, reading_low, reading_high, reading_end}
+use Rattle.std.proofs.Common.{ℕ, ◌+◌, ◌*◌, min, ap, sym, ◌∙◌, arith}
+use Rattle.board_lines.specs.Lease.{is_digit}
+use Rattle.board_lines.proofs.Value.{reading_more, reading_other, reading_end}
 use Rattle.board_lines.proofs.lease.lease.Goals as goal
 
-pub returns-then-b-lt48 : goal.returns-then-b-lt48
-returns-then-b-lt48 c =
-    reading_low _ _ _ c.loop-i.invariant c.loop-i-test.true c.if-b-lt48.true
+pub returns-then-not-is_ascii_digit : goal.returns-then-not-is_ascii_digit
+unfolding is_digit
+returns-then-not-is_ascii_digit c = reading_other _ _ _ c.loop-b.invariant c.loop-b-test.true (sym c.is_ascii_digit.ensures.value ∙ c.if-not-is_ascii_digit.true)
 
-pub returns-then-b-gt57 : goal.returns-then-b-gt57
-returns-then-b-gt57 c =
-    reading_high _ _ _ c.loop-i.invariant c.loop-i-test.true c.if-b-lt48.false c.if-b-gt57.true
-
-pub loop-i-preserved : goal.loop-i-preserved
-loop-i-preserved c =
-    reading_more _ _ _ c.loop-i.invariant c.loop-i-test.true c.if-b-lt48.false c.if-b-gt57.false _ c.more-n.ensures
-
-pub loop-i-init : goal.loop-i-init
-loop-i-init c = reading_start _
+pub loop-b-preserved : goal.loop-b-preserved
+loop-b-preserved c =
+    reading_more _ _ _ c.loop-b.invariant c.loop-b-test.true (omega (arith, c.if-not-is_ascii_digit.ensures.cases)) (omega (arith, c.if-not-is_ascii_digit.ensures.cases)) _ (c.min-n.ensures ∙ ap (λ (d : ℕ). min (c.loop-b.n * 10 + d) 65536) c.from.ensures)
 
 pub returns : goal.returns
-returns c = reading_end _ _ _ c.loop-i.invariant c.loop-i-test.false
+returns c = reading_end _ _ _ c.loop-b.invariant c.loop-b-test.false

@@ -2,10 +2,10 @@
 use Rattle.mfc.proofs.Replying.{asked, read_refused, read_known}
 use Rattle.mfc.proofs.reply.mfc_read_reply.Goals as goal
 
-pub returns-in-Refused : goal.returns-in-Refused
-returns-in-Refused c =
-    read_refused _ _ _ _ (asked _ _ _ _ c.request_of.ensures c.place.ensures) c.args.body.now c.in-Refused.is c.not_read.ensures
+pub returns-in-Err : goal.returns-in-Err
+returns-in-Err c =
+    read_refused _ _ _ c.request_of.result (asked _ _ _ c.request_of.ensures c.from.ensures) c.args.body.now c.in-Err.is c.into-in-Err.ensures
 
-pub returns-in-Known : goal.returns-in-Known
-returns-in-Known c =
-    read_known _ _ _ _ (asked _ _ _ _ c.request_of.ensures c.place.ensures) c.args.body.now c.in-Known.is c.read_reply.ensures c.of_read.ensures
+pub returns-in-Ok : goal.returns-in-Ok
+returns-in-Ok c =
+    read_known _ _ _ c.request_of.result (asked _ _ _ c.request_of.ensures c.from.ensures) c.args.body.now c.in-Ok.is c.read_reply.ensures c.into.ensures

@@ -6,13 +6,10 @@ pub returns-then-is_unsayable : goal.returns-then-is_unsayable
 returns-then-is_unsayable c =
     let a = c.args in
     known_unsayable a.address a.request a.reply a.n a.text.now a.bit7 a.out.now c.is_unsayable.ensures c.if-is_unsayable.true
-    c.refusal_of.result c.refusal_of.ensures c.not_written.ensures
+    c.refusal_of.result c.refusal_of.ensures
 
 pub returns : goal.returns
 returns c =
     let a = c.args in
     known-said a.address a.request a.reply a.n a.text.now a.bit7 a.out.now
-    (sayable a.reply a.n c.is_unsayable.ensures c.if-is_unsayable.false).0 c.reply_of.ensures c.write_reply.ensures c.of_written.ensures
-
-pub reply_of-requires : goal.reply_of-requires
-reply_of-requires c = let a = c.args in sayable a.reply a.n c.is_unsayable.ensures c.if-is_unsayable.false
+    (sayable a.reply a.n c.is_unsayable.ensures c.if-is_unsayable.false).0 c.reply_of.ensures c.write_reply.ensures

@@ -1,17 +1,12 @@
--- `replay::run::note_places` meets its contract. Assumes nothing.
-use mathlib.Core.Path.{refl, ◌∙◌}
-use native.Mathlib.Omega.{arith}
-use lib.ListN.{length-set}
+use Rattle.std.proofs.Common.{arith}
 use Rattle.replay.proofs.Halving.{leaves_none, leaves_more, noted_none, noted_more}
 use Rattle.replay.proofs.run.note_places.Goals as goal
 
-pub loop-k-init : goal.loop-k-init
-loop-k-init c = (omega arith, refl, leaves_none _ _, noted_none _ _ _)
+pub loop-noted-init : goal.loop-noted-init
+loop-noted-init c = (leaves_none _ _, noted_none _ _ _)
 
-pub loop-k-preserved : goal.loop-k-preserved
-loop-k-preserved c = let l = c.loop-k in (
-  omega (arith, c.loop-k-test.true),
-  length-set l.places l.k l.at ∙ l.invariant.1,
-  leaves_more _ _ l.k _ _ c.requires.0 l.invariant.2 c.back_over-at.ensures,
-  noted_more _ _ _ _ l.places (omega (arith, c.loop-k-test.true, l.invariant.1, c.requires.1)) l.invariant.2 l.invariant.3,
+pub loop-noted-preserved : goal.loop-noted-preserved
+loop-noted-preserved c = let l = c.loop-noted in (
+  leaves_more _ _ l.noted-index _ _ c.requires l.invariant.0 c.back_over-at.ensures,
+  noted_more _ _ _ _ l.places (omega (arith, c.loop-noted-test.true, l.auto.places)) l.invariant.0 l.invariant.1,
 )

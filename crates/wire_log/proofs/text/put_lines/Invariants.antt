@@ -1,19 +1,13 @@
 -- `wire_log::text::put_lines` meets its contract. The invariant: the lines that are left, laid from here on, make the whole. Assumes
 -- nothing.
-use mathlib.Core.Path.{◌≡◌}
-use Prim.Native.Nat.{◌-◌, ◌≤◌}
-use lib.ListN.{length, take, drop}
+use Rattle.std.proofs.Common.{◌≡◌, ◌-◌, length, take, drop}
 use Rattle.wire_log.specs.Log.{kinds}
-use Rattle.wire_log.specs.Check.{records_before}
 use Rattle.wire_log.specs.Text.{lines_of, log_text}
-use Rattle.wire_log.specs.Private.{shown}
+use Rattle.wire_log.specs.Private.{records_in, shown}
 use Rattle.wire_log.proofs.Windows.{Laying}
 use Rattle.wire_log.proofs.text.put_lines.Given as goal
 
-abbrev pub invariant-loop-left : goal.invariant-loop-left
-invariant-loop-left l =
-    (l.place ≤ length l.file - 8) × (l.left ≡ length (shown (records_before kinds l.file l.place)))
-    × Laying (lines_of (shown (records_before kinds l.file l.place))) l.initial.out 0 (take (length l.initial.out) (drop l.from (log_text kinds l.file))) l.out l.o l.skip
-
-abbrev pub decreases-loop-left : goal.decreases-loop-left
-decreases-loop-left l = l.left
+abbrev pub invariant-loop : goal.invariant-loop
+invariant-loop l =
+    (l.rest ≡ take (length l.rest) (take (length l.file - 8) l.file)) × (l.count - l.counter ≡ length (shown (records_in kinds l.rest)))
+    × Laying (lines_of (shown (records_in kinds l.rest))) l.initial.out 0 (take (length l.initial.out) (drop l.from (log_text kinds l.file))) l.out l.next l.left

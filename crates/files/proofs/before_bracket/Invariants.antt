@@ -1,8 +1,0 @@
-use Rattle.std.proofs.Common.{length, ◌≤◌}
-use Rattle.files.proofs.before_bracket.Given as goal
-
-abbrev pub invariant-loop-at : goal.invariant-loop-at
-invariant-loop-at l = l.at ≤ length l.text
-
-abbrev pub decreases-loop-at : goal.decreases-loop-at
-decreases-loop-at l = l.at

@@ -1,2 +1,0 @@
--- The laws that the proofs share.
-pub mod Arms

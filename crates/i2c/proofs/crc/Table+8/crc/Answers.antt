@@ -1,0 +1,12 @@
+-- The CRC is a fold of the bytes.
+use Rattle.std.proofs.Common.{rules, ◌∙◌}
+use Rattle.std.proofs.lemmas.Iterator.{YieldsList-from_slice}
+use Rattle.std.proofs.lemmas.Iterator.Consumers.{fold_from_yields_List}
+use Rattle.i2c.specs.Engines.{table_step}
+use Rattle.i2c.proofs.Engines.{table_fold}
+use Rattle.i2c.proofs.crc.Table+8.crc.Goals as goal
+
+pub returns : goal.returns
+returns c =
+    fold_from_yields_List _ (table_step c.args.self.now.entries) _ _ c.fold.ensures.ran (YieldsList-from_slice c.args.bytes.now (cc)) (λ a x b q k. search rules)
+    ∙ table_fold _ _ _

@@ -1,7 +1,0 @@
--- `mfc::logs::mfc_log_append` meets its contract. Assumes nothing.
-use Rattle.mfc.specs.Answers.{written}
-use Rattle.mfc.proofs.Structs.{answered}
-use Rattle.mfc.proofs.logs.mfc_log_append.Goals as goal
-
-pub returns : goal.returns
-returns c = answered written c.of_length.ensures c.append.ensures

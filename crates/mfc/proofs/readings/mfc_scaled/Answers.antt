@@ -1,9 +1,0 @@
--- `mfc::readings::mfc_scaled` meets its contract. Assumes nothing.
-use mathlib.Core.Path.{ap, ◌∙◌}
-use mir.Syntax.{w16, w32}
-use mir.ValLaws.{to_z-of_z}
-use Rattle.mfc.specs.Answers.{thousandths}
-use Rattle.mfc.proofs.readings.mfc_scaled.Goals as goal
-
-pub returns : goal.returns
-returns c = c.of_thousandths.ensures ∙ ap thousandths (rw (to_z-of_z w16 c.args.raw c.ranges.raw, to_z-of_z w16 c.args.offset c.ranges.offset, to_z-of_z w32 c.args.scale c.ranges.scale) at c.scaled.ensures)
