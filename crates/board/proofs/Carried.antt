@@ -17,7 +17,7 @@ use Rattle.refusal.specs.Refusals.{Numbered, number, paper, Answered, served, re
 use Rattle.board.specs.declared.entries.Kind.{Kind}
 use Rattle.board.specs.declared.entries.Node.{Node}
 use Rattle.board.specs.declared.entries.Entry.{Entry}
-use Rattle.board.specs.Entries.{entry_of, is_free, is_of, place_of, holds, valid}
+use Rattle.board.specs.Entries.{entry_of, empty, is_free, is_of, place_of, holds, valid}
 use Rattle.board.specs.Orders.{Outcome, opened}
 use Rattle.board.specs.Listing.{standing_in, listed, list_answer, laid, or_as_it_was, list, fewest, laid_first}
 use Rattle.board.proofs.Turns.{holds_place}
@@ -123,8 +123,16 @@ laid_by {a} entries zs {xs} k e l m {n} {out} (f, w) = (λ j. (served (f j), sam
     same : out ≡ laid entries zs
     same = w ∙ (λ j. take (all j) xs ++ drop (all j) zs) ∙ ap (λ (x : List Entry). x ++ drop (length xs) zs) (take-length xs) ∙ ap (λ (x : List Entry). laid x zs) e
 
+-- and a list laid in 32 free places
+pub laid_free : (xs l zs : List Entry) → xs ≡ l → zs ≡ empty → length xs ≤ 32 → {n : ℕ} {out : List Entry}
+    → (n ≡ length xs) × (out ≡ laid_first (length xs) xs zs) → out ≡ take n l ++ drop n empty
+laid_free xs l zs e z m {n} {out} (f, w) = w ∙ (λ j. laid_first (sym f j) (e j) (z j)) ∙ (λ j. take (all j) l ++ drop (all j) empty)
+  where
+    all : fewest n (length empty) ≡ n
+    all = fewest_all n (length empty) (omega (arith, f, m)) (omega (arith, f, m))
+
 -- what is served has room
-serves_few : (t : List Entry) (room : ℕ) {n : ℕ} → list_answer t room ≡ served n → n ≤ room
+pub serves_few : (t : List Entry) (room : ℕ) {n : ℕ} → list_answer t room ≡ served n → n ≤ room
 unfolding list_answer
 serves_few t room {n} k = go (eqb (length t) 32) (valid t) (ltb room (length (listed (standing_in t)))) refl k
   where

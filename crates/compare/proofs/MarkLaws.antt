@@ -7,7 +7,6 @@ use native.Mathlib.Nat.{zero-add, add_assoc}
 use native.Mathlib.Omega.{arith}
 use lib.Dec.{eqb}
 use mir.Val.{bool_byte}
-use lib.Pointwise.{pointwise}
 use denote.Enum.Bare.{sameb}
 use lib.ListN.{length, set, take, drop, length-set, length-append, length-reverse}
 use Rattle.refusal.specs.Room.{overlay}
@@ -20,7 +19,7 @@ use Rattle.wire_log.specs.Oldest.{records_to}
 use Rattle.wire_log.proofs.Turns.{Turn}
 use Rattle.compare.specs.Compare.{same_bytes, mark_of, marks_of, equal_places}
 use Rattle.compare.specs.Private.{marks_to}
-use Rattle.compare.proofs.ByteLaws.{pointwise-same, same_kind}
+use Rattle.compare.proofs.ByteLaws.{same_kind}
 
 -- two records that the code found: what its tests say
 module _ (a b : List ℕ) (x y : Found) where
@@ -30,18 +29,18 @@ module _ (a b : List ℕ) (x y : Found) where
   abbrev in_b : LogRecord
   in_b = recorded (number_of_kind y.kind) (take y.size (drop y.start b))
 
-  parts : pointwise eqb (take (x.start + x.size - x.start) (drop x.start a)) (take (y.start + y.size - y.start) (drop y.start b)) ≡ same_bytes in_a.body in_b.body
+  parts : same_bytes (take (x.start + x.size - x.start) (drop x.start a)) (take (y.start + y.size - y.start) (drop y.start b)) ≡ same_bytes in_a.body in_b.body
   parts =
       let p : x.start + x.size - x.start ≡ x.size = omega arith in
       let q : y.start + y.size - y.start ≡ y.size = omega arith in
-      rw (p, q) (pointwise-same (take x.size (drop x.start a)) (take y.size (drop y.start b)))
+      rw (p, q)
 
   pub mark_kinds : false ≡ sameb the_type x.kind y.kind → 1 ≡ mark_of in_a in_b
   unfolding mark_of
   mark_kinds h = rw (sym (same_kind x.kind y.kind) ∙ sym h)
 
   module _ (h : true ≡ sameb the_type x.kind y.kind) where
-    pub mark_by : (t : Bool) → t ≡ pointwise eqb (take (x.start + x.size - x.start) (drop x.start a)) (take (y.start + y.size - y.start) (drop y.start b))
+    pub mark_by : (t : Bool) → t ≡ same_bytes (take (x.start + x.size - x.start) (drop x.start a)) (take (y.start + y.size - y.start) (drop y.start b))
         → cond {A = ℕ} t 0 1 ≡ mark_of in_a in_b
     unfolding mark_of
     mark_by t e = rw (sym (same_kind x.kind y.kind) ∙ sym h, sym parts ∙ sym e)

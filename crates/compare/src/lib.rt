@@ -11,9 +11,12 @@ ghost use Rattle.wire_log.specs.Oldest.{records_to};
 ghost use Rattle.compare.specs.Compare.{mark_of, equal_places, counts, compare as compareTo};
 ghost use Rattle.compare.specs.Private.{marks_to};
 
+use crate::bytes::same_bytes;
 use refusal::Refusal;
 use wire_log::oldest::{Found, back_over, newest};
 use wire_log::reader::check;
+
+mod bytes;
 
 // The mark of a place where both logs have the same record. The marks are bytes, since C reads them (mfc_log_compare).
 pub const SAME: u8 = 0;
@@ -41,14 +44,16 @@ fn mark(a: &[u8], x: Found, b: &[u8], y: Found) -> u8
 {
     let body_a = &a[x.start..x.start + x.size];
     let body_b = &b[y.start..y.start + y.size];
-    if x.kind == y.kind && body_a == body_b {
+    if x.kind == y.kind && same_bytes(body_a, body_b) {
         SAME
     } else {
         DIFFER
     }
 }
 
-// Marks the records that end at a place of each log, and answers how many are the same.
+// Marks the records that end at a place of each log, and answers how many are the same. It is a function of its own in the machine code too:
+// its loop then has the processor's registers for itself.
+#[inline(never)]
 fn mark_records(a: &[u8], p: usize, b: &[u8], q: usize, marks: &mut [u8]) -> usize
     requires { (p ≤ length a.now) × (q ≤ length b.now) × (length marks.old ≡ length (records_to kinds a.now p)) × (length marks.old ≡ length (records_to kinds b.now q)) }
     ensures { (result ≡ equal_places (marks_to a.now p b.now q)) × (marks.new ≡ marks_to a.now p b.now q) }

@@ -1,7 +1,7 @@
 // A file read whole into lent room, and what its programs write.
 #![tactic(auto)]
 
-ghost use Rattle.std.specs.Prelude.{◌≡◌, ◌≤◌, IfSome, IsErrAnd, OnOk, length, take};
+ghost use Rattle.std.specs.Prelude.{◌≡◌, ◌≤◌, ◌+◌, ◌++◌, IfSome, IfOk, IsErrAnd, OnOk, MatchResult, length, take};
 ghost use Rattle.std.specs.Bool.{OnTrue};
 ghost use Rattle.std.specs.Io.KnownBytes.{Appends, Consumes, IsAtEnd};
 ghost use Rattle.std.specs.IoError.{raw_os_error};
@@ -78,11 +78,11 @@ fn read_full<R: Read>(input: &mut R, room: &mut [u8]) -> usize
     done
 }
 
-// Reads a file to its end, and answers its bytes in the room; of one that fills the room the first bytes are kept. None where it could not
-// be read to its end.
-pub fn load<'a, R: Read>(input: &mut R, room: &'a mut [u8]) -> Option<&'a [u8]>
-    ensures bound { IfSome result (λ bytes. length bytes.now ≤ length room.old) }
-    ensures bytes { IfSome result (λ bytes. IfSome (R.remaining input.old) (λ xs. bytes.now ≡ take (length room.old) xs)) }
+// Reads a file to its end, and puts its bytes at the room's start; of one that fills the room the first bytes are kept. Ok says how many there
+// are, Err how many there were where it could not be read to its end.
+pub fn read_whole<R: Read>(input: &mut R, room: &mut [u8]) -> Result<usize, usize>
+    ensures bound { MatchResult result (λ n. n ≤ length room.new) (λ n. n ≤ length room.new) }
+    ensures bytes { IfOk result (λ n. IfSome (R.remaining input.old) (λ xs. take n room.new ≡ take (length room.new) xs)) }
 {
     let length = read_full(input, room);
     let ended = if length < room.len() {
@@ -90,10 +90,17 @@ pub fn load<'a, R: Read>(input: &mut R, room: &'a mut [u8]) -> Option<&'a [u8]>
     } else {
         read_on(input)
     };
-    if ended {
-        return Some(&room[..length]);
-    }
-    None
+    if ended { Ok(length) } else { Err(length) }
+}
+
+// The same, with the file's bytes in the room as the answer, and None where it could not be read to its end. That they are the room's first
+// bytes `read_whole` says: while the answer borrows the room, a clause on what the room holds in the end would need a proof by hand.
+pub fn load<'a, R: Read>(input: &mut R, room: &'a mut [u8]) -> Option<&'a [u8]>
+    ensures bound { IfSome result (λ bytes. length bytes.now ≤ length room.old) }
+    ensures bytes { IfSome result (λ bytes. IfSome (R.remaining input.old) (λ xs. bytes.now ≡ take (length room.old) xs)) }
+{
+    let length = read_whole(input, room).ok()?;
+    Some(&room[..length])
 }
 
 // Writes all of a text, or stops at the first write that fails or takes nothing. The library's write_all goes on after a write that was
@@ -145,6 +152,21 @@ pub fn fail<W: Write>(to: &mut W, what: &[u8], error: &io::Error) -> io::Result<
     ended
 }
 
+// The program's name and a text behind it in one piece, which takes one write: between two, another program's line could come. A name that
+// leaves no room for the text is written here, and the piece is the text alone.
+fn named<W: Write>(to: &mut W, program: &[u8], text: &[u8]) -> ArrayVec<u8, 256>
+    ensures { length program.now + length text.now ≤ 256 → result.items ≡ program.now ++ text.now }
+{
+    let mut piece = ArrayVec::new();
+    if program.len() + text.len() <= 256 {
+        let _ = piece.try_extend_from_slice(program);
+    } else {
+        let _ = write_all(to, program);
+    }
+    let _ = piece.try_extend_from_slice(text);
+    piece
+}
+
 // The log that the first argument names, whole, in lent room. Where it cannot be had, standard error says why, behind the program's name.
 pub fn first_log<'a>(rt: &HostRuntime, program: &[u8], room: &'a mut [u8]) -> Option<&'a [u8]>
     ensures { IfSome result (λ log. length log.now ≤ length room.old) }
@@ -154,15 +176,17 @@ pub fn first_log<'a>(rt: &HostRuntime, program: &[u8], room: &'a mut [u8]) -> Op
     let mut log = match open(rt, name) {
         Ok(log) => log,
         Err(why) => {
-            let _ = write_all(&mut rt.stderr(), program);
-            let _ = fail(&mut rt.stderr(), b": the log cannot be opened", &why);
+            let mut to = rt.stderr();
+            let what = named(&mut to, program, b": the log cannot be opened");
+            let _ = fail(&mut to, what.as_slice(), &why);
             return None;
         }
     };
     let loaded = load(&mut log, room);
     if loaded.is_none() {
-        let _ = write_all(&mut rt.stderr(), program);
-        let _ = write_all(&mut rt.stderr(), b": the log cannot be read to its end\n");
+        let mut to = rt.stderr();
+        let line = named(&mut to, program, b": the log cannot be read to its end\n");
+        let _ = write_all(&mut to, line.as_slice());
     }
     loaded
 }

@@ -1,14 +1,12 @@
 -- Laws of a number in decimal: its last digit, and how many digits there are. Assumes nothing.
 use Prim.Native.Nat.{ℕ, zero, suc, ◌+◌, ◌*◌, ◌/◌, ◌%◌, ◌^◌, ◌≤◌, ◌<◌}
 use native.Mathlib.Omega.{arith}
-use mathlib.Core.Path.{◌≡◌, refl, sym, ap, ◌∙◌}
+use mathlib.Core.Path.{◌≡◌, refl, ap}
 use mathlib.Core.Bool.{Bool, true, false, cond}
 use mathlib.Core.List.{List, [], ◌∷◌, ◌++◌}
 use lib.Dec.{ltb}
 use borrow.Author.Tests.{lt-ltb, le-ltb, ltb-true, ltb-false}
 use lib.ListN.{length, length-append}
-use Rattle.std.specs.Fmt as printed
-use Rattle.std.proofs.lemmas.Fmt.{decimal_by_steps}
 use Rattle.lines.specs.Text.{digit, decimal_within, decimal, field}
 
 -- more divisions than enough change nothing
@@ -31,12 +29,6 @@ decimal-more zero h = absurd (omega arith)
 decimal-more (suc n) h =
     rw (le-ltb (suc n) 10 h)
     (ap (λ (l : List ℕ). l ++ (digit (suc n % 10) ∷ [])) (within_same n (suc n / 10) (suc n / 10) (omega arith) (omega arith)))
-
--- it is what std prints
-pub decimal_printed : (n : ℕ) → n < 2 ^ 64 → printed.decimal n ≡ decimal n
-decimal_printed n h =
-    decimal_by_steps (λ m ds. ds ≡ decimal m) (λ m k. sym (decimal_digit m k))
-    (λ m ds k e. ap (λ (l : List ℕ). l ++ (digit (m % 10) ∷ [])) e ∙ sym (decimal-more m k)) n h
 
 -- 10, 100, 1000, ..
 tens : ℕ → ℕ

@@ -1,7 +1,6 @@
 -- Contracts of private functions: nothing that a reader has to believe.
-use Rattle.std.specs.Prelude.{ℕ, ◌+◌, ◌-◌, cond, Option, Some, None, List, [], map, length, take}
-use Rattle.refusal.specs.declared.Refusal.{Refusal}
-use Rattle.refusal.specs.Refusals.{number_of, is_placed, place_of, served, refused}
+use Rattle.std.specs.Prelude.{ℕ, ◌+◌, ◌-◌, List, [], map, length, take}
+use Rattle.refusal.specs.Refusals.{served, refused}
 use Rattle.refusal.specs.Room.{overlay}
 use Rattle.shdlc.specs.Stream.{byte}
 use Rattle.receiver.specs.Record.{Record, held, record_from}
@@ -9,10 +8,6 @@ use Rattle.receiver.specs.Calls.{Said, nothing, gave}
 use Rattle.lines.specs.declared.Listed.{Listed}
 use Rattle.lines.specs.Program.{line_of}
 use Rattle.lines.specs.Listing.{shown_by, fitting}
-
--- the place that a refusal tells, where it has one
-abbrev pub place_told : Refusal → Option ℕ
-place_told why = cond (is_placed (number_of why)) (Some (place_of why)) None
 
 -- the line of what a feeding call said
 abbrev pub said_line : Said → List ℕ → List ℕ

@@ -1,19 +1,17 @@
 // The lines that the program puts out of a stream's items.
 #![tactic(auto)]
 
-ghost use Rattle.std.specs.Prelude.{◌≡◌, true, ◌+◌, ◌-◌, ◌≤◌, ◌++◌, min, length, get_or, take};
-ghost use Rattle.arrayvec.specs.ArrayVec.{array_vec_len};
-ghost use Rattle.refusal.specs.Refusals.{served, paper, answered};
+ghost use Rattle.std.specs.Prelude.{◌≡◌, true, ◌+◌, ◌-◌, ◌≤◌, min, length, get_or, take};
+ghost use Rattle.refusal.specs.Refusals.{served, paper, answered, is_placed};
 ghost use Rattle.refusal.specs.Room.{overlay, emit};
 ghost use Rattle.receiver.specs.Record.{held, in_range};
 ghost use Rattle.receiver.specs.Calls.{paper_answer};
-ghost use Rattle.lines.specs.Text.{decimal, field, frame_line, refused_line, end_line};
+ghost use Rattle.lines.specs.Text.{decimal, field, frame_line, placed_field, refused_line, end_line};
 ghost use Rattle.lines.specs.Program.{line_of, limit};
 ghost use Rattle.lines.specs.Listing.{paper_listing, paper_filled, fill_of};
-ghost use Rattle.lines.specs.Private.{place_told, said_line, paper_listed, list_of};
+ghost use Rattle.lines.specs.Private.{said_line, paper_listed, list_of};
 
 use arrayvec::ArrayVec;
-use itoa::Buffer;
 use receiver::Receiver;
 use refusal::Refusal;
 
@@ -22,123 +20,6 @@ const LIMIT: u32 = 4_294_967_295;
 
 // The bytes that hold every line.
 const LINE: usize = 24;
-
-// Not by `write!`, which was tried: its clause says what was written where it is Ok, and not when it is, so that no line is proved whole.
-type Line = ArrayVec<u8, LINE>;
-
-fn append<const N: usize>(text: &mut ArrayVec<u8, N>, bytes: &[u8])
-    requires { array_vec_len text.old + length bytes.now ≤ N }
-    ensures items { text.new.items ≡ text.old.items ++ bytes.now }
-    ensures len { array_vec_len text.new ≡ array_vec_len text.old + length bytes.now }
-{
-    let _ = text.try_extend_from_slice(bytes);
-}
-
-#[tactic(auto, using(crate::proofs::Decimal::decimal_printed))]
-fn append_number<const N: usize>(text: &mut ArrayVec<u8, N>, n: u32)
-    requires { array_vec_len text.old + length (decimal n) ≤ N }
-    ensures items { text.new.items ≡ text.old.items ++ decimal n }
-    ensures len { array_vec_len text.new ≡ array_vec_len text.old + length (decimal n) }
-{
-    let mut buffer = Buffer::new();
-    append(text, buffer.format(n).as_bytes());
-}
-
-// A number in decimal.
-#[tactic(auto, using(crate::proofs::Decimal::decimal_u32))]
-pub fn digits(n: u32) -> ArrayVec<u8, 10>
-    ensures { result.items ≡ decimal n }
-{
-    let mut text = ArrayVec::new();
-    append_number(&mut text, n);
-    text
-}
-
-// A number and the byte after it.
-#[tactic(auto, using(crate::proofs::Decimal::field_size), unfolding(crate::specs::Text::field))]
-fn append_field(line: &mut Line, n: u32, after: u8)
-    requires { array_vec_len line.old + length (field n after) ≤ 24 }
-    ensures items { line.new.items ≡ line.old.items ++ field n after }
-    ensures len { array_vec_len line.new ≡ array_vec_len line.old + length (field n after) }
-{
-    append_number(line, n);
-    line.push(after);
-}
-
-#[tactic(auto, using(crate::proofs::Decimal::field_byte), unfolding(crate::specs::Text::frame_line))]
-fn frame_line(address: u8, command: u8, l: u8) -> Line
-    ensures { result.items ≡ frame_line address command l }
-{
-    let mut line = Line::new();
-    append(&mut line, b"frame ");
-    append_field(&mut line, u32::from(address), b' ');
-    append_field(&mut line, u32::from(command), b' ');
-    append_field(&mut line, u32::from(l), b'\n');
-    line
-}
-
-// The place in its stretch that a refusal tells, with 3 and 4 alone.
-fn place_told(why: Refusal) -> Option<u16>
-    ensures { result ≡ place_told why }
-{
-    match why {
-        Refusal::BadEscape(place) | Refusal::BareControl(place) => Some(place),
-        _ => None,
-    }
-}
-
-#[tactic(auto, using(crate::proofs::Decimal::field_byte, crate::proofs::Decimal::field_u16), unfolding(crate::specs::Text::refused_line, crate::specs::Text::placed_field))]
-fn refused_line(why: Refusal) -> Line
-    ensures { result.items ≡ refused_line (paper why) }
-{
-    let mut line = Line::new();
-    append(&mut line, b"refused ");
-    let n = u32::from(why.number());
-    let Some(place) = place_told(why) else {
-        append_field(&mut line, n, b'\n');
-        return line;
-    };
-    append_field(&mut line, n, b' ');
-    append(&mut line, b"at ");
-    append_field(&mut line, u32::from(place), b'\n');
-    line
-}
-
-#[tactic(auto, using(crate::proofs::Decimal::field_u32), unfolding(crate::specs::Text::end_line))]
-fn end_line(n: u32) -> Line
-    ensures { result.items ≡ end_line n }
-{
-    let mut line = Line::new();
-    append(&mut line, b"end ");
-    append_field(&mut line, n, b'\n');
-    line
-}
-
-fn byte_at(bytes: &[u8], i: usize) -> u8
-    ensures { result ≡ get_or bytes.now i 0 }
-{
-    bytes.get(i).copied().unwrap_or(0)
-}
-
-// The line of a frame by its body.
-#[tactic(auto, unfolding(crate::specs::Program::line_of))]
-fn body_line(body: &[u8]) -> Line
-    ensures { result.items ≡ line_of (served body.now) }
-{
-    frame_line(byte_at(body, 0), byte_at(body, 1), byte_at(body, 2))
-}
-
-// The line of what a feeding call said, none where that is nothing.
-#[tactic(auto, unfolding(crate::specs::Program::line_of))]
-fn answer_line(answer: Result<Option<usize>, Refusal>, frame: &[u8]) -> Line
-    ensures { result.items ≡ said_line (paper_answer answer) frame.now }
-{
-    match answer {
-        Ok(None) => Line::new(),
-        Ok(Some(n)) => body_line(&frame[..n.min(frame.len())]),
-        Err(why) => refused_line(why),
-    }
-}
 
 // Writes bytes from a place on, and answers the place after them.
 #[tactic(auto, unfolding(refusal::specs::Room::overlay))]
@@ -149,6 +30,141 @@ fn put(bytes: &[u8], out: &mut [u8], place: usize) -> usize
     let end = place + bytes.len();
     out[place..end].copy_from_slice(bytes);
     end
+}
+
+// Writes a number in decimal. In place, as all of a line: put together elsewhere and then copied, a line takes twice the time.
+fn put_decimal(n: u32, out: &mut [u8], place: usize) -> usize
+    requires { place + length (decimal n) ≤ length out.old }
+    ensures { (result ≡ place + length (decimal n)) × (out.new ≡ overlay out.old place (decimal n)) }
+{
+    if n < 10 {
+        out[place] = b'0' + n as u8;
+        return place + 1;
+    }
+    let last = put_decimal(n / 10, out, place);
+    out[last] = b'0' + (n % 10) as u8;
+    last + 1
+}
+
+// A number in decimal that can be copied: the first `count` of ten bytes.
+#[derive(Clone, Copy, Debug, PartialEq, Eq)]
+pub struct Numeral {
+    pub bytes: [u8; 10],
+    pub count: usize,
+}
+
+pub fn digits_in_bytes(n: u32) -> Numeral
+    ensures { (take result.count result.bytes ≡ decimal n) × (result.count ≡ length (decimal n)) × (result.count ≤ length result.bytes) }
+{
+    let mut bytes = [0u8; 10];
+    let count = put_decimal(n, &mut bytes, 0);
+    Numeral { bytes, count }
+}
+
+// A number in decimal.
+pub fn digits(n: u32) -> ArrayVec<u8, 10>
+    ensures { result.items ≡ decimal n }
+{
+    let numeral = digits_in_bytes(n);
+    let mut text = ArrayVec::new();
+    let _ = text.try_extend_from_slice(&numeral.bytes[..numeral.count]);
+    text
+}
+
+// Writes a number and the byte after it.
+fn put_field(n: u32, after: u8, out: &mut [u8], place: usize) -> usize
+    requires { place + length (field n after) ≤ length out.old }
+    ensures { (result ≡ place + length (field n after)) × (out.new ≡ overlay out.old place (field n after)) }
+{
+    let last = put_decimal(n, out, place);
+    out[last] = after;
+    last + 1
+}
+
+fn put_frame(address: u8, command: u8, l: u8, out: &mut [u8], place: usize) -> usize
+    requires { place + 24 ≤ length out.old }
+    ensures { (result ≡ place + length (frame_line address command l)) × (out.new ≡ overlay out.old place (frame_line address command l)) }
+{
+    let first = put(b"frame ", out, place);
+    let second = put_field(u32::from(address), b' ', out, first);
+    let third = put_field(u32::from(command), b' ', out, second);
+    put_field(u32::from(l), b'\n', out, third)
+}
+
+// Whether the refusal with the number has a place in its stretch.
+fn is_placed(n: u8) -> bool
+    ensures { result ≡ is_placed n }
+{
+    n == 3 || n == 4
+}
+
+// Writes a refusal's number and its place in the stretch.
+fn put_placed(n: u8, at: u16, out: &mut [u8], place: usize) -> usize
+    requires { place + 16 ≤ length out.old }
+    ensures { (result ≡ place + length (placed_field n at)) × (out.new ≡ overlay out.old place (placed_field n at)) }
+{
+    let first = put_field(u32::from(n), b' ', out, place);
+    let second = put(b"at ", out, first);
+    put_field(u32::from(at), b'\n', out, second)
+}
+
+fn put_refused(why: Refusal, out: &mut [u8], place: usize) -> usize
+    requires { place + 24 ≤ length out.old }
+    ensures { (result ≡ place + length (refused_line (paper why))) × (out.new ≡ overlay out.old place (refused_line (paper why))) }
+{
+    let first = put(b"refused ", out, place);
+    let n = why.number();
+    if is_placed(n) {
+        return put_placed(n, why.place(), out, first);
+    }
+    put_field(u32::from(n), b'\n', out, first)
+}
+
+fn put_end(n: u32, out: &mut [u8]) -> usize
+    requires { 24 ≤ length out.old }
+    ensures { (result ≡ length (end_line n)) × (out.new ≡ overlay out.old 0 (end_line n)) }
+{
+    let first = put(b"end ", out, 0);
+    put_field(n, b'\n', out, first)
+}
+
+fn byte_at(bytes: &[u8], i: usize) -> u8
+    ensures { result ≡ get_or bytes.now i 0 }
+{
+    bytes.get(i).copied().unwrap_or(0)
+}
+
+// The line of a frame by its body.
+#[tactic(auto, unfolding(crate::specs::Program::line_of))]
+fn put_body(body: &[u8], out: &mut [u8], place: usize) -> usize
+    requires { place + 24 ≤ length out.old }
+    ensures { (result ≡ place + length (line_of (served body.now))) × (out.new ≡ overlay out.old place (line_of (served body.now))) }
+{
+    put_frame(
+        byte_at(body, 0),
+        byte_at(body, 1),
+        byte_at(body, 2),
+        out,
+        place,
+    )
+}
+
+// The line of what a feeding call said, none where that is nothing; answers the place after it.
+#[tactic(auto, using(refusal::proofs::Room::overlay_nothing), unfolding(crate::specs::Program::line_of))]
+fn put_answer(
+    answer: Result<Option<usize>, Refusal>,
+    frame: &[u8],
+    out: &mut [u8],
+    place: usize,
+) -> usize
+    requires { place + 24 ≤ length out.old }
+    ensures { (result ≡ place + length (said_line (paper_answer answer) frame.now)) × (out.new ≡ overlay out.old place (said_line (paper_answer answer) frame.now)) }
+{
+    match answer {
+        Ok(None) => place,
+        Ok(Some(n)) => put_body(&frame[..n.min(frame.len())], out, place),
+        Err(why) => put_refused(why, out, place),
+    }
 }
 
 // Whether a record is within its ranges: asking for its noise count is refused where it is not.
@@ -185,8 +201,7 @@ fn list(from: Receiver, store: &mut [u8], piece: &[u8], out: &mut [u8], place: u
         let more = fed.taken;
         r = next;
         taken += more;
-        let line = answer_line(fed.answer, &frame);
-        filled = put(line.as_slice(), out, filled);
+        filled = put_answer(fed.answer, &frame, out, filled);
     }
     Listed {
         receiver: r,
@@ -264,13 +279,13 @@ pub fn fill(l: Listing, store: &mut [u8], piece: &[u8], out: &mut [u8], place: u
 }
 
 // Lays the last line, with the bytes read, at the start of the lent room.
-#[tactic(auto, unfolding(refusal::specs::Room::emit))]
 pub fn end(l: Listing, out: &mut [u8]) -> Result<usize, Refusal>
     ensures { (answered result, out.new) ≡ emit (end_line (limit - l.left)) out.old }
 {
-    let line = end_line(LIMIT - l.left);
-    if out.len() < line.len() {
+    let mut text = [0u8; LINE];
+    let n = put_end(LIMIT - l.left, &mut text);
+    if out.len() < n {
         return Err(Refusal::NoRoom);
     }
-    Ok(put(line.as_slice(), out, 0))
+    Ok(put(&text[..n], out, 0))
 }

@@ -12,6 +12,7 @@ ghost use Rattle.receiver.specs.Record.{held, number_of_mode, mode_numbered, out
 ghost use Rattle.receiver.specs.Calls.{paper_fed, fresh_of, feed_of, noise_of, completed, scanned_as, scan_from};
 
 use refusal::Refusal;
+use refusal::laying::copy;
 use shdlc::Kind;
 
 // Where the receiver stands: before the first 7E or after silence; in a stretch; in one after a 7D; in one with the fault of
@@ -288,7 +289,7 @@ fn complete(r: Receiver, taken: usize, store: &[u8; 260], frame: &mut [u8]) -> F
     };
     match judge(r, store) {
         Ok(()) => {
-            frame[..r.len].copy_from_slice(&store[..r.len]);
+            copy(&mut frame[..r.len], &store[..r.len]);
             Fed {
                 receiver,
                 taken,
@@ -344,7 +345,8 @@ fn skip_noise(mode: Mode, piece: &[u8]) -> usize
 }
 
 // Reads a piece up to a 7E that ends a stretch with a byte, and stops before what that 7E does to the record. A turn of the loop passes a
-// byte, and with it the run of bytes that it stored, no fixed number.
+// byte, and with it the run of bytes that it stored, no fixed number. The mode is compared: of a `match` the compiler makes a table of
+// jumps, and long pieces full of escapes take longer. Polling traffic does where `store_run` is called with no byte left.
 fn scan(r: Receiver, store: &mut [u8; 260], piece: &[u8]) -> Scanned
     requires { r.noise < 4294967296 }
     ensures { scanned_as result store.new ≡ scan_from 0 (held r store.old) piece.now }
@@ -372,37 +374,32 @@ fn scan(r: Receiver, store: &mut [u8; 260], piece: &[u8]) -> Scanned
             }
             mode = Mode::Plain;
             len = 0;
-        } else {
-            match mode {
-                Mode::Plain => {
-                    if b == 0x7D {
-                        mode = Mode::Escaped;
-                    } else if is_control(b) {
-                        mode = Mode::BareControl;
-                    } else if len < 260 {
-                        store[len] = b;
-                        len += 1;
-                        let n = store_run(store, len, &piece[i..]);
-                        len += n;
-                        i += n;
-                    } else {
-                        len = past(len, 1);
-                    }
+        } else if mode == Mode::Plain {
+            if b == 0x7D {
+                mode = Mode::Escaped;
+            } else if is_control(b) {
+                mode = Mode::BareControl;
+            } else if len < 260 {
+                store[len] = b;
+                len += 1;
+                if i < piece.len() {
+                    let n = store_run(store, len, &piece[i..]);
+                    len += n;
+                    i += n;
                 }
-                Mode::Escaped => {
-                    if is_escaped(b) {
-                        mode = Mode::Plain;
-                        if len < 260 {
-                            store[len] = b ^ 0x20;
-                            len += 1;
-                        } else {
-                            len = past(len, 2);
-                        }
-                    } else {
-                        mode = Mode::BadEscape;
-                    }
-                }
-                Mode::Outside | Mode::BadEscape | Mode::BareControl => {}
+            } else {
+                len = past(len, 1);
+            }
+        } else if mode == Mode::Escaped {
+            if !is_escaped(b) {
+                mode = Mode::BadEscape;
+            } else if len < 260 {
+                mode = Mode::Plain;
+                store[len] = b ^ 0x20;
+                len += 1;
+            } else {
+                mode = Mode::Plain;
+                len = past(len, 2);
             }
         }
     }

@@ -4,6 +4,8 @@
 ghost use Rattle.std.specs.Prelude.{◌≡◌, ◌++◌, codes, decimal, Some};
 ghost use Rattle.refusal.specs.Refusals.{number_of, place_of};
 
+pub mod laying;
+
 use std::error::Error;
 use std::fmt;
 

@@ -16,7 +16,7 @@ use sfc6::Request;
 use shdlc::Kind;
 
 #[derive(Clone, Copy)]
-pub(crate) struct Desk {
+pub struct Desk {
     // The one lease of all that the log opens.
     pub(crate) lease: u32,
     // The latest request frame, where it was read as a request: the address that it was sent to, and what it asks.

@@ -18,7 +18,7 @@ use wire_log::oldest::{back_over, newest};
 const STORE: usize = 260;
 
 // A side of the line: its receiver, and the store that it works on. The record is within its ranges.
-#[derive(Drop)]
+#[derive(Clone, Copy)]
 pub(crate) struct Side {
     receiver: Receiver,
     store: [u8; STORE],
@@ -33,6 +33,8 @@ impl Model for Side {
     ghost view = { λ s. held s.receiver s.store };
 
     ghost invariant = { λ s. in_range (held s.receiver s.store) ≡ true };
+
+    ghost inverse = { λ r. record { receiver = record { kind = r.kind; mode = r.mode; len = r.len; noise = r.noise }; store = r.store } };
 }
 
 impl Side {
@@ -68,8 +70,8 @@ impl Side {
 }
 
 // Where the replay stands.
-#[derive(Drop)]
-pub(crate) struct Run {
+#[derive(Clone, Copy)]
+pub struct Run {
     requests: Side,
     replies: Side,
     frame: [u8; STORE],

@@ -3,21 +3,24 @@ use mathlib.Core.Path.{◌≡◌, refl, sym, ap, ◌∙◌}
 use mathlib.Core.Logic.{◌⊎◌, inl, inr, ⊎_elim}
 use mathlib.Core.Bool.{Bool, true, false, ◌&&◌}
 use mathlib.Core.List.{List, [], ◌∷◌}
-use Prim.Native.Nat.{ℕ, ◌<◌}
+use Prim.Native.Nat.{ℕ, ◌^◌, ◌≤◌, ◌<◌}
 use native.Mathlib.Omega.{arith}
-use borrow.Author.Tests.{lt-ltb, ltb-true, eqb-true}
+use borrow.Author.Tests.{lt-ltb, le-ltb, ltb-true, eqb-true}
 use lib.Dec.{ltb, eqb}
 use lib.ListN.{drop, take-append-drop}
 use Rattle.refusal.specs.declared.Refusal.{Refusal}
-use Rattle.refusal.specs.Refusals.{Numbered, Answered, number, served, refused, paper, answered, in_order}
-use Rattle.refusal.specs.Room.{lay}
+use Rattle.refusal.specs.Refusals.{Numbered, Answered, number, served, refused, paper, answered, answered_as, in_order}
+use Rattle.refusal.specs.Room.{emit, lay}
 use Rattle.std.specs.Prelude.{Result, Ok, Err}
-use Rattle.shdlc.specs.Frame.{frame_of}
+use Rattle.shdlc.specs.Frame.{frame_of, write_frame}
 use Rattle.sfc6.specs.declared.Request.{Request}
 use Rattle.sfc6.specs.Commands.{row, request_at}
-use Rattle.sfc6.specs.Requests.{request_checks, check_request, numbered, body_of, frame_to_write, write_request, write_numbered}
+use Rattle.sfc6.specs.Requests.{request_checks, check_request, numbered, body_at, body_of, frame_to_write, write_request, write_numbered}
 use Rattle.sfc6.specs.Rounds.{append_request, append_numbered}
 use Rattle.sfc6.proofs.Order.{never, first_refuses}
+use Rattle.sfc6.proofs.Checks.{passed_request}
+use Rattle.sfc6.proofs.Rewritten.{numbered-body}
+use Rattle.sfc6.proofs.Writing.{Says, frame_by_check, write_refused, write_laid}
 
 -- ---- the request of a number
 module _ (place n : ℕ) where
@@ -66,6 +69,20 @@ module _ (address place n : ℕ) where
   unfolding write_numbered
   no_frame h room = rw (lt-ltb _ _ h)
 
+  module _ (within : place ≤ 20) (c : Result (Unit {0}) Refusal) (is : Says address request c) where
+    pub frame_refused : (room : List ℕ) {why : Refusal} → c ≡ Err why → (refused (paper why), room) ≡ write_numbered address place n room
+    unfolding write_numbered
+    frame_refused room e = rw (le-ltb _ _ within) (write_refused address request room _ c (frame_by_check address request c is) e)
+
+    pub frame-laid : (room : List ℕ) → c ≡ Ok tt → n < 2 ^ 32 → {o : Answered ℕ × List ℕ} → o ≡ write_frame (body_at address place n) room
+        → o ≡ write_numbered address place n room
+    unfolding write_numbered
+    frame-laid room e small h =
+        let passed = passed_request address request (sym is ∙ ap (answered_as (λ _. (address, request))) e) in
+        rw (le-ltb _ _ within)
+        (write_laid address request room _ c (frame_by_check address request c is) e
+        (h ∙ ap (λ (b : List ℕ). emit (frame_of b) room) (numbered-body address place n within small passed)))
+
   module _ (t : Result Request Refusal) (is : answered t ≡ numbered place n) where
     stopped : {why : Refusal} → t ≡ Err why → (room : List ℕ) → write_numbered address place n room ≡ (refused (paper why), room)
     unfolding write_numbered
@@ -73,14 +90,6 @@ module _ (address place n : ℕ) where
         ⊎_elim (λ h. rw (h.0, h.1))
         (λ h. rw (h.0, h.1) (write_stopped address request room (number 12) (wide_refused address place n h.2 h.3)))
         (numbered_refused place n (paper why) (sym is ∙ ap answered e))
-
-    pub write_none : (room : List ℕ) {why : Refusal} → t ≡ Err why → (refused (paper why), room) ≡ write_numbered address place n room
-    write_none room e = sym (stopped e room)
-
-    pub write_known : (room : List ℕ) {q : Request} → t ≡ Ok q → {o : Answered ℕ × List ℕ} → o ≡ write_request address q room
-        → o ≡ write_numbered address place n room
-    unfolding write_numbered
-    write_known room {q} e h = let k = numbered_served place n q (sym is ∙ ap answered e) in h ∙ rw (k.0, k.1)
 
   -- in the middle of a buffer
   module _ (buffer : List ℕ) (start : ℕ) where

@@ -1,7 +1,7 @@
 // The typed commands of the SFC6 family: the table, and requests written and read.
 #![tactic(auto)]
 
-ghost use Rattle.std.specs.Prelude.{◌≡◌, [], ◌∷◌, ◌++◌, ℕ, ◌+◌, ◌-◌, ◌/◌, ◌%◌, ◌≤◌, ◌<◌, Bool, min, ◌&&◌, length, take, Ok, Err};
+ghost use Rattle.std.specs.Prelude.{◌≡◌, [], ◌∷◌, ◌++◌, ℕ, ◌+◌, ◌-◌, ◌/◌, ◌%◌, ◌≤◌, ◌<◌, Bool, cond, min, ◌&&◌, ltb, eqb, length, take, Ok, Err};
 ghost use Rattle.std.specs.Float.{binary32};
 ghost use Rattle.std.specs.Float.Ieee.{to_bits, of_bits};
 ghost use Rattle.sfc6.specs.declared.Request.{Request as Asked};
@@ -468,12 +468,62 @@ pub fn request_of(place: usize, n: u32) -> Result<Request, Refusal>
     Ok(request_at(place, n))
 }
 
-// Writes the frame of a request by its number and the number that it carries: 11 comes first.
+// The checks of a float by its bits, of an address to be set and of a baud.
+fn check_float(bits: u32) -> Result<(), Refusal>
+    ensures { result ≡ cond (finite bits) (Ok tt) (Err Refusal.BadFloat) }
+{
+    if is_finite(bits) {
+        return Ok(());
+    }
+    Err(Refusal::BadFloat)
+}
+
+fn check_address(address: u8, n: u32) -> Result<(), Refusal>
+    ensures { result ≡ cond (ltb 254 n) (Err Refusal.OutOfRange) (cond (eqb address 255) (Err Refusal.AddressBroadcast) (Ok tt)) }
+{
+    if 254 < n {
+        return Err(Refusal::OutOfRange);
+    }
+    if address == 255 {
+        return Err(Refusal::AddressBroadcast);
+    }
+    Ok(())
+}
+
+fn check_baud(rate: u32) -> Result<(), Refusal>
+    ensures { result ≡ cond (member rate bauds) (Ok tt) (Err Refusal.OutOfRange) }
+{
+    if is_baud(rate) {
+        return Ok(());
+    }
+    Err(Refusal::OutOfRange)
+}
+
+// The refusals of the request at a place, carrying a number: 12, 13, 10. It asks the number, and makes no request of it first, which would
+// have to be taken apart again.
+#[tactic(auto, unfolding(crate::specs::Commands::row, crate::specs::Requests::check_request))]
+fn check_at(address: u8, place: usize, n: u32) -> Result<(), Refusal>
+    ensures { answered_as (λ _. (address, request_at place n)) result ≡ check_request address (request_at place n) }
+{
+    match place {
+        1 | 4 | 6 => check_float(n),
+        17 => check_address(address, n),
+        19 => check_baud(n),
+        _ => Ok(()),
+    }
+}
+
+// Writes the frame of a request by its number and the number that it carries: 11 comes first. It is laid into both of C's functions that call
+// it: as a function of its own it would hand its answer over in memory, which takes a third more of the time of a short request.
+#[inline(always)]
 pub fn write_numbered(address: u8, place: usize, n: u32, out: &mut [u8]) -> Result<usize, Refusal>
     ensures { (answered result, out.new) ≡ write_numbered address place n out.old }
 {
-    let request = request_of(place, n)?;
-    write_request(address, request, out)
+    if LAST < place {
+        return Err(Refusal::UnknownCommand);
+    }
+    check_at(address, place, n)?;
+    lay_numbered(address, place, n, out)
 }
 
 // Writes the frame of a request into the room that a buffer has left from `start` on. Past its end there is none: 1, but only where
@@ -500,8 +550,8 @@ pub fn append_numbered(
 ) -> Result<usize, Refusal>
     ensures { (answered result, buffer.new) ≡ append_numbered buffer.old start address place n }
 {
-    let request = request_of(place, n)?;
-    append_request(buffer, start, address, request)
+    let from = start.min(buffer.len());
+    write_numbered(address, place, n, &mut buffer[from..])
 }
 
 // Lays the frames of a polling round one after another from `start` on: the same request to each of the nodes. The first frame that is

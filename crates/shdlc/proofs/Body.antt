@@ -55,6 +55,13 @@ module _ (kind : Kind) (body : List ℕ) where
       unfolding check_body
       body_good l h = rw (le-ltb _ _ most, le-ltb _ _ least, eq-eqb _ _ l, eq-eqb _ _ h)
 
+-- the refusal of a wrong L, by what the code reads and tests
+pub length_refused : (kind : Kind) (body : List ℕ) (least l : ℕ) → least ≡ shortest kind → l ≡ get_or body (least - 2) 0
+    → length body ≤ longest kind → shortest kind ≤ length body → (l ≡ length body - least → ⊥) → refused (number 7) ≡ check_body kind body
+length_refused kind body least l e f most short wrong =
+    let at : get_or body (length_place kind) 0 ≡ l = rw (length_place_lem, ← e) (sym f) in
+    sym (body_wrong_length kind body most short (λ h. wrong (sym at ∙ h ∙ ap (λ (k : ℕ). length body - k) (sym e))))
+
 -- a body as it is written, with its checksum: `front` is what stands before L, two bytes of a request, three of a reply
 module _ (kind : Kind) (front payload : List ℕ) (before : length front ≡ length_place kind) (short : length payload ≤ 255) where
   abbrev body : List ℕ

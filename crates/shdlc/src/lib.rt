@@ -90,6 +90,7 @@ pub fn checksum(bytes: &[u8]) -> u8
 }
 
 // The checks 5, 6, 7 and 8 over an unstuffed body, checksum included. L comes before the checksum.
+#[tactic(auto, using(crate::proofs::Body::length_refused))]
 pub fn check_body(kind: Kind, body: &[u8]) -> Result<(), Refusal>
     ensures { answered_as (λ _. body.now) result ≡ check_body kind body.now }
 {

@@ -6,6 +6,7 @@ ghost use Rattle.shdlc.specs.Stuffing.{stuff};
 ghost use Rattle.shdlc.specs.Runs.{run_of};
 
 use crate::{has_escaped, is_escaped};
+use refusal::laying::copy;
 
 // Passes over blocks of so many plain bytes, and answers the place behind them: the run that is left there is shorter than a block.
 fn skip(bytes: &[u8], from: usize, width: usize) -> usize
@@ -54,7 +55,7 @@ fn copy_run(out: &mut [u8], place: usize, bytes: &[u8], n: usize) -> usize
             return 16;
         }
     }
-    out[place..place + n].copy_from_slice(&bytes[..n]);
+    copy(&mut out[place..place + n], &bytes[..n]);
     n
 }
 

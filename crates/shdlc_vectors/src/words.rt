@@ -1,4 +1,6 @@
 // A row of the table, taken apart: words with one space between them. Words are bytes, since a row need not be text.
+ghost use Rattle.std.specs.Prelude.{◌<◌};
+
 use arrayvec::ArrayVec;
 
 // The nth word, from 0; past the last an empty one.
@@ -15,7 +17,9 @@ pub(crate) fn cut(word: &[u8], mark: u8) -> (&[u8], &[u8]) {
 }
 
 // The value of a digit; any other byte counts as 0, and its row then gives another answer than it should.
-fn digit(b: u8) -> u32 {
+fn digit(b: u8) -> u32
+    ensures { result < 16 }
+{
     match b {
         b'0'..=b'9' => u32::from(b - b'0'),
         b'A'..=b'F' => u32::from(b - b'A') + 10,
@@ -78,7 +82,8 @@ pub(crate) fn bytes_from(line: &[u8], nth: usize) -> ArrayVec<u8, 600> {
         .take_while(|w| !w.is_empty())
     {
         let repeat = Repeat::from(word);
-        for _ in 0..repeat.times {
+        // Each turn puts a byte at least, so that no more turns than the room has places change anything.
+        for _ in 0..repeat.times.min(600) {
             for &byte in &repeat.bytes {
                 let _ = bytes.try_push(byte);
             }

@@ -20,7 +20,7 @@ pub word_short : (kind : ℕ) → length (word_of kind) ≤ 7
 unfolding word_of
 word_short kind = short (eqb kind 1) (eqb kind 2)
 
-length_hex : (body : List ℕ) → length (hex_bytes body) ≡ 3 * length body
+pub length_hex : (body : List ℕ) → length (hex_bytes body) ≡ 3 * length body
 unfolding hex_bytes hex_byte
 length_hex [] = refl
 length_hex (b ∷ body) = omega (arith, length_hex body)

@@ -100,6 +100,17 @@ laying_on a b room place whole out o skip {next} {more} {after} all w m =
       same = rw (w.0, w.1, m, ← all.kept) (lay-on out a b o skip all.within ∙ laid);
     }
 
+-- a text that is skipped whole takes no room
+pub skipped_whole : (text out : List ℕ) (skip place : ℕ) → length text ≤ skip
+    → (place ≡ place + length (fitting text skip (length out) place)) × (out ≡ overlay out place (fitting text skip (length out) place))
+skipped_whole text out skip place h =
+    let none : fitting text skip (length out) place ≡ [] = rw (rest_end text skip h) (take-nil (length out - place)) in
+    (omega (arith, ap (λ (l : List ℕ). length l) none), sym (ap (overlay out place) none ∙ overlay_nothing out place))
+
+pub laying_past : (a b room : List ℕ) (place : ℕ) (whole out : List ℕ) (o skip : ℕ) {more : ℕ} → Laying (a ++ b) room place whole out o skip
+    → length a ≤ skip → more ≡ skip - length a → Laying b room place whole out o more
+laying_past a b room place whole out o skip all h m = laying_on a b room place whole out o skip all (skipped_whole a out skip o h) m
+
 -- a loop's start at a place of the room, and at its start, and what its end is to the contract
 pub laying_at : (text room : List ℕ) (place skip : ℕ) → place ≤ length room → Laying text room place (fitting text skip (length room) place) room place skip
 laying_at text room place skip h = record { kept = refl; within = h; size = refl; same = refl }

@@ -1,7 +1,7 @@
 -- Bytes copied into a part of the room. Assumes nothing.
 use mathlib.Core.Path.{◌≡◌, ap, ◌∙◌}
-use mathlib.Core.List.{List, [], ◌∷◌, ◌++◌}
-use Prim.Native.Nat.{ℕ, zero, suc, ◌+◌, ◌-◌, min}
+use mathlib.Core.List.{List, ◌++◌}
+use Prim.Native.Nat.{ℕ, ◌+◌, ◌-◌}
 use native.Mathlib.Omega.{arith}
 use lib.ListN.{length, take, drop, length-drop}
 use lib.Seq.{drop-drop, take_all}
@@ -20,11 +20,6 @@ pub copied_to : (room : List ℕ) (place end : ℕ) {copied bytes : List ℕ} �
     → put_mid place (end - place) room copied ≡ overlay room place bytes
 copied_to room place end {copied} {bytes} c e = ap (put_mid place (end - place) room) c ∙ written_to room bytes place end e
 
--- the bytes from a place on, and as many of them as fit
-pub rest_from : (skip : ℕ) (l : List ℕ) → take (length l - min skip (length l)) (drop (min skip (length l)) l) ≡ drop skip l
-rest_from skip l = take_all (length l - min skip (length l)) (drop (min skip (length l)) l) (simp length-drop (omega arith)) ∙ to skip l
-  where
-    to : (n : ℕ) (l : List ℕ) → drop (min n (length l)) l ≡ drop n l
-    to zero l = let z : min 0 (length l) ≡ 0 = omega arith in rw z
-    to (suc n) [] = let z : min (suc n) 0 ≡ 0 = omega arith in rw z
-    to (suc n) (b ∷ l) = let z : min (suc n) (suc (length l)) ≡ suc (min n (length l)) = omega arith in rw z (to n l)
+-- the bytes from a place on
+pub rest_from : (skip : ℕ) (l : List ℕ) → take (length l - skip) (drop skip l) ≡ drop skip l
+rest_from skip l = take_all (length l - skip) (drop skip l) (simp length-drop (omega arith))

@@ -37,10 +37,10 @@ fn word(kind: Kind) -> &'static [u8]
 pub fn put_from(bytes: &[u8], skip: usize, out: &mut [u8], place: usize) -> usize
     ensures { (result ≡ place + length (take (length out.old - place) (drop skip bytes.now))) × (out.new ≡ overlay out.old place (take (length out.old - place) (drop skip bytes.now))) }
 {
-    if out.len() <= place {
+    if out.len() <= place || bytes.len() <= skip {
         return place;
     }
-    let rest = &bytes[skip.min(bytes.len())..];
+    let rest = &bytes[skip..];
     let n = rest.len().min(out.len() - place);
     let end = place + n;
     out[place..end].copy_from_slice(&rest[..n]);
@@ -54,11 +54,25 @@ fn put_line(kind: Kind, body: &[u8], skip: usize, out: &mut [u8], place: usize) 
 {
     let word = word(kind);
     let mut next = put_from(word, skip, out, place);
-    let mut left = skip.saturating_sub(word.len());
-    for b in body {
+    let past_word = skip.saturating_sub(word.len());
+    // The bytes whose digits are all skipped take no turn of the loop, since a long line is laid in many parts.
+    let skipped = body.len().min(past_word / 3);
+    let mut left = past_word - 3 * skipped;
+    for b in &body[skipped..] {
+        if out.len() <= next {
+            return next;
+        }
         let hex = [b' ', hex_digit(*b / 16), hex_digit(*b % 16)];
-        next = put_from(&hex, left, out, next);
-        left = left.saturating_sub(3);
+        if left == 0 && 3 <= out.len() - next {
+            // Three stores, where all three fit: a copy of the array waits for the stores that made it.
+            out[next] = hex[0];
+            out[next + 1] = hex[1];
+            out[next + 2] = hex[2];
+            next += 3;
+        } else {
+            next = put_from(&hex, left, out, next);
+            left = left.saturating_sub(3);
+        }
     }
     put_from(b"\n", left, out, next)
 }

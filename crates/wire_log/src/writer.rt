@@ -8,6 +8,7 @@ ghost use Rattle.wire_log.specs.Private.{laid_after};
 
 use crate::reader::{MOST, check, known};
 use refusal::Refusal;
+use refusal::laying::copy;
 
 // Writes a record and the closing bytes after the records of a log, which end at `total`; `count` is the new number of records.
 fn lay_record(buffer: &mut [u8], total: usize, kind: u8, body: &[u8], count: usize)
@@ -17,7 +18,7 @@ fn lay_record(buffer: &mut [u8], total: usize, kind: u8, body: &[u8], count: usi
     let end = total + body.len();
     let size = body.len() as u16;
     let new_total = (end + 3) as u32;
-    buffer[total..end].copy_from_slice(body);
+    copy(&mut buffer[total..end], body);
     buffer[end] = kind;
     buffer[end + 1..end + 3].copy_from_slice(&size.to_be_bytes());
     buffer[end + 3..end + 7].copy_from_slice(&(count as u32).to_be_bytes());

@@ -2,14 +2,14 @@
 use Rattle.std.proofs.Common.{true, false}
 use Rattle.compare.proofs.MarkLaws.{mark_kinds, mark_by}
 use Rattle.compare.proofs.mark.Goals as goal
-use Rattle.compare.proofs.mark.Goals.{else-eq-via-then-eq+else-eq-2, else-eq-via-else-eq}
+use Rattle.compare.proofs.mark.Goals.{else-eq-via-then-eq+else-same_bytes, else-eq-via-else-eq}
 
-pub returns-then-eq-2 : goal.returns-then-eq-2
-returns-then-eq-2 c = mark_by _ _ c.args.x c.args.y c.if-eq.ensures true c.if-eq-2.ensures
+pub returns-then-same_bytes : goal.returns-then-same_bytes
+returns-then-same_bytes c = mark_by _ _ c.args.x c.args.y c.if-eq.ensures true c.if-same_bytes.ensures
 
 pub returns-else-eq : goal.returns-else-eq
 returns-else-eq c =
     elim c.else-eq.branch [
-      | else-eq-via-then-eq+else-eq-2 w ↦ mark_by _ _ c.args.x c.args.y w.if-eq.ensures false w.if-eq-2.ensures
+      | else-eq-via-then-eq+else-same_bytes w ↦ mark_by _ _ c.args.x c.args.y w.if-eq.ensures false w.if-same_bytes.ensures
       | else-eq-via-else-eq w ↦ mark_kinds _ _ c.args.x c.args.y w.if-eq.ensures
     ]

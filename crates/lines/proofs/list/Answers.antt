@@ -5,7 +5,6 @@ use mathlib.Core.Path.{refl, ◌∙◌}
 use lib.ListN.{length, take, drop, length-take, length-drop}
 use Rattle.receiver.specs.Record.{held}
 use Rattle.receiver.proofs.Cases.{range_size, taken_within}
-use Rattle.lines.proofs.Lines.{laid-as}
 use Rattle.lines.proofs.Loop.{turn, nothing_left, no_room, ended, from_start}
 use Rattle.lines.proofs.list.Goals as goal
 
@@ -34,7 +33,7 @@ loop-taken-smaller c =
     let t =
     turn (held l.r l.store) c.args.piece.now l.frame l.out l.taken l.filled c.feed-fed.result c.loop-taken-test.true
     (l.invariant.range c.loop-taken-test.true) (omega arith) l.invariant.place c.if-out-filled-lt-LINE.false c.feed-fed.ensures
-    (laid-as _ _ _ _ (c.as_slice.ensures.value ∙ c.answer_line-line.ensures) c.put-filled.ensures) c.put-filled.auto.out in
+    c.put_answer-filled.ensures c.put_answer-filled.auto.out in
     omega (arith, t.within, t.more)
 
 pub loop-taken-preserved : goal.loop-taken-preserved
@@ -43,7 +42,7 @@ loop-taken-preserved c =
     let t =
     turn (held l.r l.store) c.args.piece.now l.frame l.out l.taken l.filled c.feed-fed.result c.loop-taken-test.true
     (l.invariant.range c.loop-taken-test.true) (omega arith) l.invariant.place c.if-out-filled-lt-LINE.false c.feed-fed.ensures
-    (laid-as _ _ _ _ (c.as_slice.ensures.value ∙ c.answer_line-line.ensures) c.put-filled.ensures) c.put-filled.auto.out in
+    c.put_answer-filled.ensures c.put_answer-filled.auto.out in
     let size = c.feed-fed.auto.store ∙ l.invariant.size in record {
       within = t.within;
       place = t.place;

@@ -1,14 +1,18 @@
 -- Each turn of the loop by the law of the byte that it reads. Assumes nothing.
 use Prim.Native.Nat.{ℕ, ◌<◌, ◌+◌}
 use native.Mathlib.Omega.{arith}
-use mathlib.Core.Path.{◌≡◌, sym, ap, ◌∙◌}
+use mathlib.Core.Path.{◌≡◌, refl, sym, ap, ◌∙◌}
+use mathlib.Core.Bool.{true, false, true≢false}
 use mathlib.Core.Logic.{◌⊎◌, inl, inr}
 use mathlib.Core.List.{List}
+use Rattle.std.proofs.Common.{rules}
+use denote.Enum.Bare.{sameb, same_true}
 use lib.ListN.{drop}
 use Rattle.shdlc.specs.declared.Kind.{Kind}
 use Rattle.receiver.specs.declared.Mode.{Mode}
 use Rattle.receiver.specs.declared.Mode.TheVariants.{Outside, Plain, Escaped, BadEscape, BareControl}
 use Rattle.receiver.specs.declared.Receiver.{Receiver}
+use Rattle.receiver.specs.contracts.Mode.{the_type}
 use Rattle.receiver.specs.Record.{Record, held, limited}
 use Rattle.receiver.specs.Calls.{scan_from}
 use Rattle.receiver.proofs.Modes.{act_escape, act_control, act_plain, act_escaped, act_bad, act_faulty}
@@ -36,10 +40,20 @@ same-mode kind mode len noise store n l h = ap (λ (x : Mode). scan_from n (now 
 outer : {m : Mode} → m ≡ Outside → m ≡ Plain → ⊥
 outer e f = let z : Outside ≡ Plain = sym e ∙ f in cc
 
--- a mode that is not the one outside
-faulty : (m : Mode) → (m ≡ Outside) ⊎ ((m ≡ BadEscape) ⊎ (m ≡ BareControl)) → (m ≡ Outside → ⊥) → (m ≡ BadEscape) ⊎ (m ≡ BareControl)
-faulty m (inl h) inside = absurd (inside h)
-faulty m (inr h) inside = h
+-- what a comparison of the mode tells
+plain_is : (m : Mode) → true ≡ sameb the_type m Plain → m ≡ Plain
+plain_is m e = same_true the_type (search rules) m Plain (sym e)
+
+escaped_is : (m : Mode) → true ≡ sameb the_type m Escaped → m ≡ Escaped
+escaped_is m e = same_true the_type (search rules) m Escaped (sym e)
+
+-- a mode that is not the one outside and none of the two that are compared with
+faulty : (m : Mode) → (m ≡ Outside → ⊥) → false ≡ sameb the_type m Plain → false ≡ sameb the_type m Escaped → (m ≡ BadEscape) ⊎ (m ≡ BareControl)
+faulty Outside inside p e = absurd (inside refl)
+faulty Plain inside p e = absurd (true≢false (sym p))
+faulty Escaped inside p e = absurd (true≢false (sym e))
+faulty BadEscape inside p e = inl refl
+faulty BareControl inside p e = inr refl
 
 pub loop-i-init : goal.loop-i-init
 loop-i-init c = let a = c.args in record {
@@ -73,7 +87,7 @@ loop-i-preserved-then-b-eq125 c =
     record {
       within = omega arith;
       same = scan_next _ here _ l.i c.loop-i-test.true l.invariant.same
-          (turn_become l.i here _ _ c.if-b-eq126.false Escaped (act_escape _ _ c.in-Plain.is c.if-b-eq125.true));
+          (turn_become l.i here _ _ c.if-b-eq126.false Escaped (act_escape _ _ (plain_is _ c.if-eq.ensures) c.if-b-eq125.true));
       no_noise = λ e h. cc;
     }
 
@@ -85,44 +99,59 @@ loop-i-preserved-then-is_control c =
       within = omega arith;
       same = scan_next _ here _ l.i c.loop-i-test.true l.invariant.same
           (turn_become l.i here _ _ c.if-b-eq126.false BareControl
-          (act_control _ _ c.in-Plain.is c.if-b-eq125.false (sym c.is_control.ensures ∙ c.if-is_control.true)));
+          (act_control _ _ (plain_is _ c.if-eq.ensures) c.if-b-eq125.false (sym c.is_control.ensures ∙ c.if-is_control.true)));
       no_noise = λ e h. cc;
     }
 
 -- a byte of the body is stored, and a run after it
-pub loop-i-preserved-then-len-lt260 : goal.loop-i-preserved-then-len-lt260
-loop-i-preserved-then-len-lt260 c =
+pub loop-i-preserved-then-i-piece : goal.loop-i-preserved-then-i-piece
+loop-i-preserved-then-i-piece c =
     let l = c.loop-i in
     let here = now c.args.r.kind l.mode l.len c.counted-noise.result l.store in
-    let plain = act_plain l.mode _ c.in-Plain.is c.if-b-eq125.false (sym c.is_control.ensures ∙ c.if-is_control.false) in
+    let is = plain_is _ c.if-eq.ensures in
+    let plain = act_plain l.mode _ is c.if-b-eq125.false (sym c.is_control.ensures ∙ c.if-is_control.false) in
     record {
       within = run_within c.args.piece.now (l.i + 1) _ (omega arith) c.store_run-n.ensures.1;
       same = scan_next _ here _ l.i c.loop-i-test.true l.invariant.same
           (turn_store l.i here _ _ c.if-b-eq126.false _ plain c.if-len-lt260.true
           ∙ run_left c.args.piece.now (l.i + 1) _ _ _ _ _ c.args.r.kind (omega arith) c.store_run-n.ensures.2
-          ∙ same-mode _ _ _ _ _ _ _ c.in-Plain.is);
-      no_noise = λ e h. absurd (outer e c.in-Plain.is);
+          ∙ same-mode _ _ _ _ _ _ _ is);
+      no_noise = λ e h. absurd (outer e is);
+    }
+
+pub loop-i-preserved-else-i-piece : goal.loop-i-preserved-else-i-piece
+loop-i-preserved-else-i-piece c =
+    let l = c.loop-i in
+    let here = now c.args.r.kind l.mode l.len c.counted-noise.result l.store in
+    let is = plain_is _ c.if-eq.ensures in
+    let plain = act_plain l.mode _ is c.if-b-eq125.false (sym c.is_control.ensures ∙ c.if-is_control.false) in
+    record {
+      within = omega arith;
+      same = scan_next _ here _ l.i c.loop-i-test.true l.invariant.same
+          (turn_store l.i here _ _ c.if-b-eq126.false _ plain c.if-len-lt260.true ∙ same-mode _ _ _ _ _ _ _ is);
+      no_noise = λ e h. absurd (outer e is);
     }
 
 pub loop-i-preserved-else-len-lt260 : goal.loop-i-preserved-else-len-lt260
 loop-i-preserved-else-len-lt260 c =
     let l = c.loop-i in
     let here = now c.args.r.kind l.mode l.len c.counted-noise.result l.store in
-    let plain = act_plain l.mode _ c.in-Plain.is c.if-b-eq125.false (sym c.is_control.ensures ∙ c.if-is_control.false) in
+    let is = plain_is _ c.if-eq.ensures in
+    let plain = act_plain l.mode _ is c.if-b-eq125.false (sym c.is_control.ensures ∙ c.if-is_control.false) in
     record {
       within = omega arith;
       same = scan_next _ here _ l.i c.loop-i-test.true l.invariant.same
           (turn_full l.i here _ _ c.if-b-eq126.false _ plain c.if-len-lt260.false
-          (came_as_lem l.mode _ _ c.if-b-eq126.false c.in-Plain.is plain) c.past-len.ensures
-          ∙ same-mode _ _ _ _ _ _ _ c.in-Plain.is);
-      no_noise = λ e h. absurd (outer e c.in-Plain.is);
+          (came_as_lem l.mode _ _ c.if-b-eq126.false is plain) c.past-len.ensures
+          ∙ same-mode _ _ _ _ _ _ _ is);
+      no_noise = λ e h. absurd (outer e is);
     }
 
 pub loop-i-preserved-then-len-lt260-2 : goal.loop-i-preserved-then-len-lt260-2
 loop-i-preserved-then-len-lt260-2 c =
     let l = c.loop-i in
     let here = now c.args.r.kind l.mode l.len c.counted-noise.result l.store in
-    let stored = act_escaped l.mode _ _ c.in-Escaped.is c.is_escaped.ensures c.if-is_escaped.true in
+    let stored = act_escaped l.mode _ _ (escaped_is _ c.if-eq-2.ensures) c.is_escaped.ensures c.if-not-is_escaped.false in
     record {
       within = omega arith;
       same = scan_next _ here _ l.i c.loop-i-test.true l.invariant.same
@@ -134,24 +163,25 @@ pub loop-i-preserved-else-len-lt260-2 : goal.loop-i-preserved-else-len-lt260-2
 loop-i-preserved-else-len-lt260-2 c =
     let l = c.loop-i in
     let here = now c.args.r.kind l.mode l.len c.counted-noise.result l.store in
-    let stored = act_escaped l.mode _ _ c.in-Escaped.is c.is_escaped.ensures c.if-is_escaped.true in
+    let is = escaped_is _ c.if-eq-2.ensures in
+    let stored = act_escaped l.mode _ _ is c.is_escaped.ensures c.if-not-is_escaped.false in
     record {
       within = omega arith;
       same = scan_next _ here _ l.i c.loop-i-test.true l.invariant.same
           (turn_full l.i here _ _ c.if-b-eq126.false _ stored c.if-len-lt260-2.false
-          (came_as_lem l.mode _ _ c.if-b-eq126.false c.in-Escaped.is stored) c.past-len-else-len-lt260-2.ensures);
+          (came_as_lem l.mode _ _ c.if-b-eq126.false is stored) c.past-len-else-len-lt260-2.ensures);
       no_noise = λ e h. cc;
     }
 
-pub loop-i-preserved-else-is_escaped : goal.loop-i-preserved-else-is_escaped
-loop-i-preserved-else-is_escaped c =
+pub loop-i-preserved-then-not-is_escaped : goal.loop-i-preserved-then-not-is_escaped
+loop-i-preserved-then-not-is_escaped c =
     let l = c.loop-i in
     let here = now c.args.r.kind l.mode l.len c.counted-noise.result l.store in
     record {
       within = omega arith;
       same = scan_next _ here _ l.i c.loop-i-test.true l.invariant.same
           (turn_become l.i here _ _ c.if-b-eq126.false BadEscape
-          (act_bad l.mode _ _ c.in-Escaped.is c.is_escaped.ensures c.if-is_escaped.false));
+          (act_bad l.mode _ _ (escaped_is _ c.if-eq-2.ensures) c.is_escaped.ensures c.if-not-is_escaped.true));
       no_noise = λ e h. cc;
     }
 
@@ -163,7 +193,7 @@ loop-i-preserved c =
     record {
       within = omega arith;
       same = scan_next _ here _ l.i c.loop-i-test.true l.invariant.same
-          (turn_become l.i here _ _ c.if-b-eq126.false l.mode (act_faulty _ _ (faulty _ c.in-Outside.is inside)));
+          (turn_become l.i here _ _ c.if-b-eq126.false l.mode (act_faulty _ _ (faulty _ inside c.if-eq.ensures c.if-eq-2.ensures)));
       no_noise = λ e h. absurd (inside e);
     }
 

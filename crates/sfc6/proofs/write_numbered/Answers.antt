@@ -1,15 +1,18 @@
 -- `sfc6::write_numbered` meets its contract. Assumes nothing.
 use Rattle.std.proofs.Common.{rules}
-use Rattle.sfc6.proofs.Numbered.{write_none, write_known}
+use Rattle.sfc6.proofs.Numbered.{no_frame, frame_refused, frame-laid}
 use Rattle.sfc6.proofs.write_numbered.Goals as goal
 
-pub returns-in_err-request : goal.returns-in_err-request
-returns-in_err-request c =
+pub returns-then-place-gt-LAST : goal.returns-then-place-gt-LAST
+returns-then-place-gt-LAST c = no_frame _ _ _ c.if-place-gt-LAST.true _
+
+pub returns-in_err-check_at : goal.returns-in_err-check_at
+returns-in_err-check_at c =
     let a = c.args in
-    let none = write_none a.address a.place a.n _ c.request_of.ensures a.out.now c.in_err-request.was in
+    let none = frame_refused a.address a.place a.n c.if-place-gt-LAST.false _ c.check_at.ensures a.out.now c.in_err-check_at.was in
     search rules
 
 pub returns : goal.returns
 returns c =
     let a = c.args in
-    write_known a.address a.place a.n _ c.request_of.ensures a.out.now c.in_ok-request.was c.write_request.ensures
+    frame-laid a.address a.place a.n c.if-place-gt-LAST.false _ c.check_at.ensures a.out.now c.in_ok-check_at.was c.ranges.n.fits c.lay_numbered.ensures

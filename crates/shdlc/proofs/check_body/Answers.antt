@@ -1,7 +1,7 @@
 use Rattle.std.proofs.Common.{◌≡◌, ℕ, ◌-◌, List, get_or, arith, sym, ◌∙◌}
 use Rattle.shdlc.specs.declared.Kind.{Kind}
 use Rattle.shdlc.specs.Body.{shortest, length_place}
-use Rattle.shdlc.proofs.Body.{length_place_lem, body_long, body_short, body_wrong_length, body_wrong_sum, body_good}
+use Rattle.shdlc.proofs.Body.{length_place_lem, body_long, body_short, body_wrong_sum, body_good}
 use Rattle.shdlc.proofs.check_body.Goals as goal
 
 -- the byte that the code reads is L
@@ -13,12 +13,6 @@ returns-then-longest-n c = sym (body_long c.args.kind c.args.body.now (omega ari
 
 pub returns-then-n-least : goal.returns-then-n-least
 returns-then-n-least c = sym (body_short c.args.kind c.args.body.now (omega arith) (omega arith))
-
-pub returns-then-from-n : goal.returns-then-from-n
-returns-then-from-n c =
-    let l = field c.args.kind c.args.body.now _ _ c.shortest-least.ensures.0 c.from.ensures in
-    let size = c.shortest-least.ensures.0 in
-    sym (body_wrong_length c.args.kind c.args.body.now (omega arith) (omega arith) (λ e. c.if-from-n.true (omega arith)))
 
 pub returns-then-body-last : goal.returns-then-body-last
 returns-then-body-last c =

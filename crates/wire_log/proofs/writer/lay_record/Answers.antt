@@ -7,7 +7,7 @@ use Rattle.wire_log.proofs.writer.lay_record.Goals as goal
 
 pub returns : goal.returns
 returns c =
-    laid _ _ _ _ _ c.requires.2 (copied_to _ _ _ c.copy_from_slice.ensures.after refl)
-    (copied_to _ _ _ (c.copy_from_slice-2.ensures.after ∙ c.to_be_bytes.ensures ∙ big_endian_is 2 _) (omega (arith, length-big_endian 2 (length c.args.body.now))))
-    (copied_to _ _ _ (c.copy_from_slice-3.ensures.after ∙ c.to_be_bytes-2.ensures ∙ big_endian_is 4 _) (omega (arith, length-big_endian 4 c.args.count)))
-    (copied_to _ _ _ (c.copy_from_slice-4.ensures.after ∙ c.to_be_bytes-3.ensures ∙ big_endian_is 4 _) (omega (arith, length-big_endian 4 (c.args.total + length c.args.body.now + 3))))
+    laid _ _ _ _ _ c.requires.2 (copied_to _ _ _ (c.copy.ensures.whole (omega arith)) refl)
+    (copied_to _ _ _ (c.copy_from_slice.ensures.after ∙ c.to_be_bytes.ensures ∙ big_endian_is 2 _) (omega (arith, length-big_endian 2 (length c.args.body.now))))
+    (copied_to _ _ _ (c.copy_from_slice-2.ensures.after ∙ c.to_be_bytes-2.ensures ∙ big_endian_is 4 _) (omega (arith, length-big_endian 4 c.args.count)))
+    (copied_to _ _ _ (c.copy_from_slice-3.ensures.after ∙ c.to_be_bytes-3.ensures ∙ big_endian_is 4 _) (omega (arith, length-big_endian 4 (c.args.total + length c.args.body.now + 3))))
