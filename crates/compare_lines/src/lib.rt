@@ -17,8 +17,8 @@ fn put_line(word: &[u8], n: u32, skip: usize, out: &mut [u8], place: usize) -> u
     requires { place ≤ length out.old }
     ensures { Fitted result out.new out.old place (line word.now n) skip }
 {
-    let number = lines::digits(n);
-    let digits = number.as_slice();
+    let number = lines::digits_in_bytes(n);
+    let digits = &number.bytes[..number.count];
     let past_word = skip.saturating_sub(word.len());
     let past_digits = past_word.saturating_sub(digits.len());
     let after_word = put_from(word, skip, out, place);
@@ -54,10 +54,13 @@ fn put_mark(m: u8, n: u32, skip: usize, out: &mut [u8], place: usize) -> usize
 fn skip_mark(skip: usize, m: u8, n: u32) -> usize
     ensures { result ≡ skip - length (told m n) }
 {
+    if skip == 0 {
+        return 0;
+    }
     match word(m) {
         Some(word) => {
-            let number = lines::digits(n);
-            skip.saturating_sub(word.len() + number.as_slice().len() + 1)
+            let number = lines::digits_in_bytes(n);
+            skip.saturating_sub(word.len() + number.count + 1)
         }
         None => skip,
     }

@@ -47,7 +47,7 @@ fn load<'a>(rt: &HostRuntime, which: usize, room: &'a mut [u8]) -> Option<&'a [u
         );
         return None;
     };
-    let loaded = files::load(&mut log, room);
+    let loaded = files::load_bytes(&mut log, room);
     if loaded.is_none() {
         complain_of(&mut rt.stderr(), name, b" cannot be read to its end\n");
     }

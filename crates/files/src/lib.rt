@@ -80,7 +80,7 @@ fn read_full<R: Read>(input: &mut R, room: &mut [u8]) -> usize
 
 // Reads a file to its end, and puts its bytes at the room's start; of one that fills the room the first bytes are kept. Ok says how many there
 // are, Err how many there were where it could not be read to its end.
-pub fn read_whole<R: Read>(input: &mut R, room: &mut [u8]) -> Result<usize, usize>
+pub fn load<R: Read>(input: &mut R, room: &mut [u8]) -> Result<usize, usize>
     ensures bound { MatchResult result (λ n. n ≤ length room.new) (λ n. n ≤ length room.new) }
     ensures bytes { IfOk result (λ n. IfSome (R.remaining input.old) (λ xs. take n room.new ≡ take (length room.new) xs)) }
 {
@@ -93,13 +93,13 @@ pub fn read_whole<R: Read>(input: &mut R, room: &mut [u8]) -> Result<usize, usiz
     if ended { Ok(length) } else { Err(length) }
 }
 
-// The same, with the file's bytes in the room as the answer, and None where it could not be read to its end. That they are the room's first
-// bytes `read_whole` says: while the answer borrows the room, a clause on what the room holds in the end would need a proof by hand.
-pub fn load<'a, R: Read>(input: &mut R, room: &'a mut [u8]) -> Option<&'a [u8]>
+// The same, with the file's bytes in the room as the answer, and None where it could not be read to its end. What the room holds then, `load`
+// says: of a function that answers a part of the lent room the check would want a proof by hand for such a clause.
+pub fn load_bytes<'a, R: Read>(input: &mut R, room: &'a mut [u8]) -> Option<&'a [u8]>
     ensures bound { IfSome result (λ bytes. length bytes.now ≤ length room.old) }
     ensures bytes { IfSome result (λ bytes. IfSome (R.remaining input.old) (λ xs. bytes.now ≡ take (length room.old) xs)) }
 {
-    let length = read_whole(input, room).ok()?;
+    let length = load(input, room).ok()?;
     Some(&room[..length])
 }
 
@@ -182,7 +182,7 @@ pub fn first_log<'a>(rt: &HostRuntime, program: &[u8], room: &'a mut [u8]) -> Op
             return None;
         }
     };
-    let loaded = load(&mut log, room);
+    let loaded = load_bytes(&mut log, room);
     if loaded.is_none() {
         let mut to = rt.stderr();
         let line = named(&mut to, program, b": the log cannot be read to its end\n");

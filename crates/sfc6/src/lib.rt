@@ -514,7 +514,7 @@ fn check_at(address: u8, place: usize, n: u32) -> Result<(), Refusal>
 }
 
 // Writes the frame of a request by its number and the number that it carries: 11 comes first. It is laid into both of C's functions that call
-// it: as a function of its own it would hand its answer over in memory, which takes a third more of the time of a short request.
+// it: as a function of its own it would hand its answer over in memory, which takes a sixth more of the time of a short request.
 #[inline(always)]
 pub fn write_numbered(address: u8, place: usize, n: u32, out: &mut [u8]) -> Result<usize, Refusal>
     ensures { (answered result, out.new) ≡ write_numbered address place n out.old }

@@ -12,17 +12,23 @@ use arrayvec::ArrayVec;
 use std::io::{self, Read, Write};
 use words::word;
 
+// The input's next byte, and none at its end or where it cannot be read.
+fn next_byte<R: Read>(input: &mut R) -> Option<u8> {
+    let mut byte = [0u8; 1];
+    match input.read(&mut byte) {
+        Ok(1) => Some(byte[0]),
+        _ => None,
+    }
+}
+
 // Reads a line without its line feed, and none at the input's end; what does not fit is left for the next.
 fn read_line<R: Read>(input: &mut R) -> Option<ArrayVec<u8, 512>> {
     let mut line = ArrayVec::new();
-    for byte in input.bytes() {
-        let Ok(byte) = byte else { break };
-        if byte == b'\n' {
-            return Some(line);
-        }
-        line.push(byte);
-        if line.is_full() {
-            return Some(line);
+    for _ in 0..512usize {
+        match next_byte(input) {
+            Some(b'\n') => return Some(line),
+            Some(byte) => line.push(byte),
+            None => break,
         }
     }
     if line.is_empty() { None } else { Some(line) }
@@ -60,13 +66,19 @@ fn row<W: Write>(out: &mut W, line: &[u8]) -> io::Result<()> {
 
 fn main(rt: HostRuntime) -> io::Result<()> {
     let mut input = rt.stdin();
-    let mut out = rt.stdout();
+    // This writer gives up a write that is interrupted again and again; the handle itself would try it for good.
+    let stdout = rt.stdout();
+    let mut out = io::writer(&stdout);
+    let mut written = Ok(());
     // A bound on the lines, so that the program ends; the table has far fewer.
     for _ in 0..100_000u32 {
         let Some(line) = read_line(&mut input) else {
             break;
         };
-        row(&mut out, &line)?;
+        // After a write that failed the lines are still read, so that the program that writes them can go on.
+        if written.is_ok() {
+            written = row(&mut out, &line);
+        }
     }
-    Ok(())
+    written
 }

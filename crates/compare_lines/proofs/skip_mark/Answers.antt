@@ -6,7 +6,7 @@ use Rattle.compare_lines.proofs.skip_mark.Goals as goal
 pub returns-in-Some : goal.returns-in-Some
 returns-in-Some c =
     let g = c.args in
-    let digits = ap (λ (l : List ℕ). length l) (c.as_slice.ensures.value ∙ c.digits-number.ensures) in
+    let digits = c.digits_in_bytes-number.ensures.1 in
     let line = ap (λ (l : List ℕ). length l) (sym (is_told g.m _ g.n c.in-Some.ensures.0 c.in-Some.ensures.1)) ∙ length-line c.in-Some.word.now g.n in
     c.saturating_sub.ensures ∙ ap (λ (k : ℕ). g.skip - k) (omega (arith, digits, line))
 
