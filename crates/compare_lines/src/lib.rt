@@ -54,6 +54,7 @@ fn put_mark(m: u8, n: u32, skip: usize, out: &mut [u8], place: usize) -> usize
 fn skip_mark(skip: usize, m: u8, n: u32) -> usize
     ensures { result ≡ skip - length (told m n) }
 {
+    // Mostly nothing is left to skip: then the digits are not made a second time.
     if skip == 0 {
         return 0;
     }
